@@ -1,0 +1,15 @@
+// Lists the calls of the schedule file on standard input, or its fault.
+use console::read_file;
+use console::write_text;
+use listing::NoMemory;
+use listing::list;
+use std::error::AnyError;
+
+fn main(rt: LibcRuntime) -> Result<(), AnyError> {
+    let bytes = read_file(&rt)?;
+    match list(rt.alloc(), bytes.as_slice()) {
+        Ok(text) => write_text(&rt, &text)?,
+        Err(NoMemory) => return Err("no memory".into()),
+    }
+    Ok(())
+}

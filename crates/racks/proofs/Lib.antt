@@ -1,0 +1,3 @@
+-- The lemmas of the crate.
+mod Sides
+pub mod Refused

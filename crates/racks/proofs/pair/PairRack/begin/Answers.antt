@@ -1,0 +1,23 @@
+-- `begin` of a pair does what its contract says.
+use mathlib.Core.List.{[], _∷_}
+use Rattle.std.specs.declared.result.Result.the-variants.{Ok}
+use Rattle.racks.proofs.Sides.{left-rows, left-answer, right-rows, right-answer}
+use Rattle.racks.proofs.pair.PairRack.begin.Needs as need
+
+pub returns-in-Left : need.returns-in-Left
+returns-in-Left g c =
+    let level = g .L·Rack·met .level (c .args .self .now .left) in
+    let at = c .in-Left .ensures tt in
+    record {
+      left = left-rows _ _ _ _ _ level at (λ row. c .args .start ∷ []) (c .begin .ensures .left);
+      answer = left-answer _ _ _ _ _ level at (λ row. Ok tt) (c .begin .ensures .answer);
+    }
+
+pub returns-in-Right : need.returns-in-Right
+returns-in-Right g c =
+    let level = g .L·Rack·met .level (c .args .self .now .left) in
+    let at = c .in-Right .ensures tt in
+    record {
+      left = right-rows _ _ _ _ _ level at (λ row. c .args .start ∷ []) (c .begin-in-Right .ensures .left);
+      answer = right-answer _ _ _ _ _ level at (λ row. Ok tt) (c .begin-in-Right .ensures .answer);
+    }

@@ -1,0 +1,22 @@
+-- `forget` of a pair does what its contract says.
+use Rattle.savers.specs.Rows.{row-forgot, answer-if-has}
+use Rattle.racks.proofs.Sides.{left-rows, left-answer, right-rows, right-answer}
+use Rattle.racks.proofs.pair.PairRack.forget.Needs as need
+
+pub returns-in-Left : need.returns-in-Left
+returns-in-Left g c =
+    let level = g .L·Rack·met .level (c .args .self .now .left) in
+    let at = c .in-Left .ensures tt in
+    record {
+      left = left-rows _ _ _ _ _ level at (λ row. row-forgot row (c .args .n)) (c .forget .ensures .left);
+      answer = left-answer _ _ _ _ _ level at (λ row. answer-if-has row (c .args .n)) (c .forget .ensures .answer);
+    }
+
+pub returns-in-Right : need.returns-in-Right
+returns-in-Right g c =
+    let level = g .L·Rack·met .level (c .args .self .now .left) in
+    let at = c .in-Right .ensures tt in
+    record {
+      left = right-rows _ _ _ _ _ level at (λ row. row-forgot row (c .args .n)) (c .forget-in-Right .ensures .left);
+      answer = right-answer _ _ _ _ _ level at (λ row. answer-if-has row (c .args .n)) (c .forget-in-Right .ensures .answer);
+    }
