@@ -1,0 +1,3 @@
+-- What the contracts of addressing speak of.
+pub mod Settings
+pub mod Batches

@@ -1,0 +1,24 @@
+-- The proof of the law of runs, and of what every bench keeps.
+pub mod Orders
+pub mod Counts
+pub mod Sorted
+pub mod Followed
+pub mod Tied
+pub mod Transits
+pub mod Arrivals
+pub mod Chains
+pub mod Performed
+pub mod RunTied
+pub mod DeliverTied
+pub mod OfferTied
+pub mod LineByLine
+pub mod LineTied
+pub mod CommitTied
+pub mod StartTied
+pub mod CallsTied
+pub mod Law
+pub mod Reach
+pub mod Fronts
+pub mod Turns
+pub mod Kept
+pub mod Cases
