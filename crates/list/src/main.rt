@@ -1,8 +1,8 @@
 // Lists the calls of the schedule file on standard input, or its fault.
 use console::read_file;
 use console::write_text;
-use listing::NoMemory;
 use listing::list;
+use report::NoMemory;
 use std::error::AnyError;
 
 fn main(rt: LibcRuntime) -> Result<(), AnyError> {

@@ -5,26 +5,17 @@ ghost use Rattle.std.specs.Of.String.{string-bytes};
 ghost use Rattle.std.specs.Vec.{made};
 ghost use Rattle.std.specs.shelf.Lists.{joined};
 ghost use Rattle.listing.specs.Listed.{call-line, listed};
+use report::NoMemory;
+use report::NoMemoryFromFmt;
 use schedule::Call;
 use schedule::CallDisplay;
 use schedule::FaultDisplay;
 use schedule::ReadError;
 use schedule::read;
 use std::alloc::Global;
-use std::fmt;
 
 #[cfg(test)]
 mod tests;
-
-// There is no memory for the text.
-#[derive(Clone, Copy)]
-pub struct NoMemory;
-
-pub impl From<fmt::Error> for NoMemory as NoMemoryFromFmt {
-    fn from(_e: fmt::Error) -> NoMemory {
-        NoMemory
-    }
-}
 
 fn add_calls(text: &mut String, calls: &[Call]) -> Result<(), NoMemory>
     ensures { λ r. ⌜ made r (λ _. string-bytes (now (text .exit)) ≡ string-bytes (now (text .entry)) ++ joined call-line (now (calls .entry))) ⌝ }

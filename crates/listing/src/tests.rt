@@ -1,6 +1,6 @@
 // Files with each fault, the shortest and the longest file, and calls cut short, by what is printed of them.
-use crate::NoMemory;
 use crate::list;
+use report::NoMemory;
 use std::test::*;
 
 fn expect(rt: &LibcRuntime, bytes: &[u8], printed: &str) -> Result<(), Fail> {

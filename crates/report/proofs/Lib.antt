@@ -1,0 +1,2 @@
+-- Lemmas for every text that grows line by line.
+pub mod More

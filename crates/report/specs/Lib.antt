@@ -1,0 +1,2 @@
+-- What the contracts of reports speak of.
+pub mod Lines
