@@ -1,0 +1,2 @@
+-- What the contracts of the rack, and of the crates above it, cite.
+pub mod FareRacks
