@@ -11,7 +11,7 @@ use Rattle.savers.specs.Rows.{Row}
 use Rattle.addressing.specs.Settings.{Setting, boards-of}
 use Rattle.model.specs.Law.{Set-up}
 use Rattle.bench.specs.declared.setup.Setup.{Setup}
-use Rattle.bench.specs.Setups.{Start, begun, start-of, first-rows}
+use Rattle.bench.specs.Setups.{begun, start-of, first-rows}
 
 abbrev alone : Words → Row
 alone w = w ∷ []

@@ -1,13 +1,12 @@
 -- What a delivery leaves.
 use mathlib.Core.Path.{_≡_, refl, sym, ap, _∙_}
-use mathlib.Core.Bool.{Bool, true, false, cond, _&&_}
-use mathlib.Core.List.{List, [], _∷_, _++_, map}
-use Prim.Native.Nat.{ℕ, suc, zero, _+_, _-_, _*_, _≤_, _<_}
+use mathlib.Core.Bool.{Bool, true, false, cond}
+use mathlib.Core.List.{List, _++_, map}
+use Prim.Native.Nat.{ℕ, _+_, _-_, _≤_, _<_}
 use native.Mathlib.Omega.{arith}
 use lib.Dec.{leb, ltb}
 use lib.ListN.{length, take, drop, getD, set, length-take, length-drop}
-use borrow.Author.Tests.{lt-leb, le-ltb, leb-false}
-use Rattle.std.specs.declared.option.Option.{Option}
+use borrow.Author.Tests.{le-ltb, leb-false}
 use Rattle.std.specs.declared.option.Option.the-variants.{Some, None}
 use Rattle.std.proofs.shelf.Lists.{take-all, length-append, length-take-le, length-map}
 use Rattle.rows.specs.Rows.{without}
@@ -17,8 +16,8 @@ use Rattle.racks.specs.Racks.{rows-back}
 use Rattle.model.specs.declared.item.Item.{Item}
 use Rattle.model.specs.declared.item.Item.the-variants.{Plus, Minus}
 use Rattle.model.specs.declared.refusal.Refusal.the-variants.{NoItem, BoardFull, TransitFull}
-use Rattle.model.specs.State.{Event, Queues, State, Answer, delivered, refused, inside, sends-of, standing-of, no-queues, issued, at-board, row-at, more-undone}
-use Rattle.model.specs.Deliver.{Arrival, arrive, has, not-after, no-message, deliver, deliver-item}
+use Rattle.model.specs.State.{Event, Queues, State, Answer, delivered, refused, inside, sends-of, standing-of, issued, at-board, row-at, more-undone}
+use Rattle.model.specs.Deliver.{Arrival, arrive, has, no-message, deliver, deliver-item}
 use Rattle.queues.specs.declared.plan.Plan.{Plan}
 use Rattle.queues.specs.Arrivals.{no-place, plan-of, arrived}
 use Rattle.queues.specs.declared.table.Table.{Table}

@@ -6,7 +6,7 @@ use native.Mathlib.Omega.{arith}
 use lib.ListN.{length, take, drop, set}
 use Rattle.std.specs.declared.option.Option.{Option}
 use Rattle.std.specs.declared.option.Option.the-variants.{Some, None}
-use Rattle.std.proofs.shelf.Lists.{take-more-set, drop-set-lt, drop-drop, take-append-drop, length-take-le, append-nil, take-all, drop-all}
+use Rattle.std.proofs.shelf.Lists.{take-more-set, drop-set-lt, drop-drop, append-nil}
 use Rattle.bus.specs.declared.Message.{Message}
 use Rattle.model.specs.declared.front.Front.{Front}
 use Rattle.model.specs.State.{State}

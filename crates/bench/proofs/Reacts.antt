@@ -4,12 +4,12 @@ use mathlib.Core.List.{List, [], _∷_, _++_, map}
 use mathlib.Core.Bool.{Bool, true, false, cond}
 use Prim.Native.Nat.{ℕ, suc, zero, _+_, _-_, _≤_, _<_}
 use native.Mathlib.Omega.{arith}
-use lib.Dec.{leb, ltb}
+use lib.Dec.{ltb}
 use lib.ListN.{length, take, drop, getD, set}
 use Rattle.std.specs.declared.option.Option.the-variants.{Some}
 use Rattle.std.specs.declared.result.Result.{Result}
 use Rattle.std.specs.declared.result.Result.the-variants.{Ok, Err}
-use Rattle.std.proofs.shelf.Lists.{length-take, length-drop, getD-take}
+use Rattle.std.proofs.shelf.Lists.{length-take, getD-take}
 use Rattle.std.proofs.shelf.Tests.{lt-ltb, lt-leb, le-ltb}
 use Rattle.bus.specs.declared.Message.{Message}
 use Rattle.bus.specs.declared.Sends.{Sends}
@@ -23,7 +23,7 @@ use Rattle.addressing.specs.Settings.{Setting, boards-of, rule-of, addressed}
 use Rattle.model.specs.declared.item.Item.{Item}
 use Rattle.model.specs.declared.item.Item.the-variants.{Plus}
 use Rattle.model.specs.declared.refusal.Refusal.the-variants as model
-use Rattle.model.specs.State.{Event, Queues, State, Answer, ran, refused, no-queues, issued, at-board, row-at, one-run}
+use Rattle.model.specs.State.{Queues, State, Answer, ran, refused, no-queues, issued, at-board, row-at, one-run}
 use Rattle.model.specs.Deliver.{room}
 use Rattle.model.specs.Run.{run, run-first, run-open, stood}
 use Rattle.model.specs.Law.{Reached}

@@ -6,7 +6,7 @@ use lib.ListN.{length, take}
 use Rattle.bus.specs.declared.Message.{Message}
 use Rattle.model.specs.declared.call.Call.{Call}
 use Rattle.model.specs.declared.outcome.Outcome.{Outcome}
-use Rattle.model.specs.State.{State, Answer, started}
+use Rattle.model.specs.State.{started}
 use Rattle.model.specs.Perform.{after, answers, lines}
 use Rattle.model.specs.Law.{Lawful}
 use Rattle.model.specs.Outcomes.{outcome-of}

@@ -1,5 +1,4 @@
 // A whole run: calls one after the other on the bench that a set-up starts.
-ghost use mathlib.Core.Path.{_≡_};
 ghost use Rattle.bench.specs.Benches.{bench-of};
 ghost use Rattle.bench.specs.Setups.{start-of};
 ghost use Rattle.bench.specs.Drives.{Drives, calls-with-memory};

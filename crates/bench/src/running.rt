@@ -11,7 +11,7 @@ use queues::Transit;
 use racks::Rack;
 
 mod beginning;
-pub mod closing;
+mod closing;
 mod committing;
 mod delivering;
 mod looking;

@@ -3,29 +3,9 @@ ghost use mathlib.Core.Path.{_≡_};
 ghost use Rattle.bench.specs.Benches.{bench-of};
 ghost use Rattle.bench.specs.Ends.{totals-of};
 use super::Running;
+use crate::closed::Closed;
+use crate::closed::Totals;
 use racks::Rack;
-
-// How many lines were committed, how many events stand, and how many were undone.
-#[derive(Clone, Copy)]
-pub struct Totals {
-    pub committed: u32,
-    pub standing: u32,
-    pub undone: u32,
-}
-
-// A bench that takes no more calls: only its totals are left.
-#[derive(Clone, Copy)]
-pub struct Closed {
-    totals: Totals,
-}
-
-impl Closed {
-    pub fn totals(&self) -> Totals
-        ensures { λ r. ⌜ r ≡ now (self .entry) .totals ⌝ }
-    {
-        self.totals
-    }
-}
 
 impl<R: Rack> Running<R> {
     // Every accepted run is committed, stands, or was undone.

@@ -4,9 +4,10 @@ ghost use Prim.Native.Nat.{min};
 ghost use lib.ListN.{length, set, replicate};
 ghost use Rattle.bus.specs.Reactions.{zeros};
 ghost use Rattle.addressing.specs.Settings.{boards-of};
+ghost use Rattle.model.specs.Law.{Reached};
 ghost use Rattle.model.specs.State.{started};
-ghost use Rattle.bench.specs.Benches.{Bench, bench-of};
-ghost use Rattle.bench.specs.Setups.{Start, start-of, first-rows, only-for-a-board};
+ghost use Rattle.bench.specs.Benches.{bench-of};
+ghost use Rattle.bench.specs.Setups.{start-of, first-rows, only-for-a-board};
 use super::Setup;
 use crate::running::Running;
 use bus::Words;
@@ -59,6 +60,9 @@ impl<R: Rack> Setup<R> {
         ensures savers_begin_with_the_start_words { λ r.
             let before = start-of (R·Rack .rules) (R·Rack .rows) self in
             ⌜ bench-of (R·Rack .rules) (R·Rack .rows) r ≡ record { setting = before .setting; state = started (first-rows before) } ⌝ }
+        ensures bench_is_reached { λ r.
+            let bench = bench-of (R·Rack .rules) (R·Rack .rows) r in
+            ⌜ Reached (bench .setting) (bench .state) ⌝ }
     {
         let Setup {
             mut rack,

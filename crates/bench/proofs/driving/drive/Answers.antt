@@ -1,3 +1,4 @@
+-- Call by call the outcomes and lines are the rules', and there is memory for them.
 use borrow.Author.Needs.{needs}
 use mathlib.Core.Path.{_≡_, refl, sym, ap, subst, _∙_}
 use mathlib.Core.List.{List, [], _++_}
@@ -6,11 +7,10 @@ use native.Mathlib.Omega.{arith}
 use lib.ListN.{length, take, drop, getD, set}
 use Rattle.std.proofs.shelf.Lists.{take-more, length-take, length-take-le, take-rest, append-nil, drop-all, length-drop}
 use Rattle.bus.specs.declared.Message.{Message}
-use Rattle.addressing.specs.Settings.{Setting}
 use Rattle.model.specs.declared.call.Call.{Call}
 use Rattle.model.specs.declared.call.Call.the-variants.{Offer}
 use Rattle.model.specs.declared.outcome.Outcome.{Outcome}
-use Rattle.model.specs.State.{State, started}
+use Rattle.model.specs.State.{started}
 use Rattle.model.specs.Perform.{perform}
 use Rattle.model.specs.Outcomes.{lines-in}
 use Rattle.model.proofs.Law.{law}

@@ -1,3 +1,4 @@
+-- So many calls are played.
 use mathlib.Core.Path.{_≡_}
 use lib.ListN.{take}
 use Rattle.bench.specs.Benches.{bench-of}

@@ -1,6 +1,7 @@
+-- Line by line the log fills, and together the lines are those of the rule.
 use mathlib.Core.Path.{_≡_, refl, sym, ap, _∙_}
-use mathlib.Core.List.{List, _++_}
-use Prim.Native.Nat.{ℕ, _≤_}
+use mathlib.Core.List.{List}
+use Prim.Native.Nat.{ℕ}
 use native.Mathlib.Omega.{arith}
 use lib.ListN.{length, take, drop}
 use Rattle.std.specs.declared.option.Option.{Option}
@@ -10,7 +11,7 @@ use Rattle.model.specs.Outlook.{outlook}
 use Rattle.model.specs.Lines.{commit-turns, state-after, lines-after}
 use Rattle.model.proofs.Turns.{turns-are}
 use Rattle.bench.specs.Benches.{bench-of}
-use Rattle.bench.proofs.Lines.{Written, written-none, written-more, written-stop, written-all}
+use Rattle.bench.proofs.Lines.{written-none, written-more, written-stop, written-all}
 use Rattle.bench.proofs.Logs.{commit-is}
 use Rattle.bench.proofs.running.Running.commit.Needs as need
 

@@ -1,3 +1,4 @@
+-- So many lines are written.
 use mathlib.Core.Path.{_≡_}
 use Rattle.bench.specs.Benches.{bench-of}
 use Rattle.bench.proofs.Lines.{Written}

@@ -1,18 +1,17 @@
+-- The soonest front is committed: its board sheds it, and its saver forgets it.
 use mathlib.Core.Path.{_≡_, refl, sym, ap, _∙_}
 use mathlib.Core.List.{List, map}
-use mathlib.Core.Bool.{Bool, true}
-use Prim.Native.Nat.{ℕ, _+_, _-_, _*_, _≤_, _<_, _^_}
+use Prim.Native.Nat.{_+_, _-_, _*_, _≤_}
 use native.Mathlib.Omega.{arith}
-use lib.ListN.{length, set, getD}
-use Rattle.std.specs.declared.option.Option.{Option}
-use Rattle.std.specs.declared.option.Option.the-variants.{Some, None}
-use Rattle.std.proofs.shelf.Lists.{length-set, length-map, map-set}
+use lib.ListN.{length, set}
+use Rattle.std.specs.declared.option.Option.the-variants.{Some}
+use Rattle.std.proofs.shelf.Lists.{length-set, map-set}
 use Rattle.std.proofs.shelf.Tests.{cond-true}
 use Rattle.savers.specs.Rows.{Row}
-use Rattle.model.specs.State.{Queues, State, no-queues, issued}
+use Rattle.model.specs.State.{Queues, State, issued}
 use Rattle.model.specs.Commit.{shed}
-use Rattle.model.specs.Lines.{front-of, final-front, next-line, after-line}
-use Rattle.queues.specs.Entries.{queues-of, board-in, boards-in}
+use Rattle.model.specs.Lines.{final-front, next-line, after-line}
+use Rattle.queues.specs.Entries.{queues-of, board-in}
 use Rattle.queues.proofs.Boards.{board-at}
 use Rattle.bench.specs.Benches.{state-of}
 use Rattle.bench.specs.Counts.{all-standing}

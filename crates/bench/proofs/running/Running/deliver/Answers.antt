@@ -1,14 +1,15 @@
+-- A delivery that passes all tests is the rule's, and the counts stay in bounds.
 use mathlib.Core.Path.{_≡_, refl, sym, ap, _∙_}
-use mathlib.Core.Bool.{Bool, true, false}
-use mathlib.Core.List.{List, map}
-use Prim.Native.Nat.{ℕ, _+_, _-_, _*_, _≤_, _<_}
+use mathlib.Core.Bool.{false}
+use mathlib.Core.List.{map}
+use Prim.Native.Nat.{_+_, _-_, _*_, _≤_}
 use native.Mathlib.Omega.{arith}
 use lib.ListN.{length, set, getD, length-take}
 use Rattle.std.proofs.shelf.Lists.{length-set, length-map, map-set, set-past, getD-past}
-use Rattle.model.specs.State.{Queues, no-queues, State, Answer, delivered, issued}
+use Rattle.model.specs.State.{Queues, no-queues, issued}
 use Rattle.model.specs.Deliver.{arrive}
 use Rattle.queues.specs.declared.plan.Plan.{Plan}
-use Rattle.queues.specs.Arrivals.{plan-of, arrived, no-place}
+use Rattle.queues.specs.Arrivals.{arrived, no-place}
 use Rattle.queues.specs.Entries.{queues-of, board-in, boards-in}
 use Rattle.queues.specs.Memory.{messages-of}
 use Rattle.queues.specs.Transits.{on-way}

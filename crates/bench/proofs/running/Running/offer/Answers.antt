@@ -1,3 +1,4 @@
+-- An offer that passes all tests is admitted.
 use mathlib.Core.Path.{refl}
 use native.Mathlib.Omega.{arith}
 use Rattle.bench.specs.Benches.{bench-of}

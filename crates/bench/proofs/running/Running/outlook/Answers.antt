@@ -1,5 +1,6 @@
-use mathlib.Core.Path.{_≡_, sym, ap, _∙_}
-use mathlib.Core.List.{List, map}
+-- The least of the boards and of transit is the least of both together.
+use mathlib.Core.Path.{sym, ap, _∙_}
+use mathlib.Core.List.{map}
 use Rattle.model.specs.State.{flat, inside}
 use Rattle.model.specs.Outlook.{open-and-early}
 use Rattle.queues.specs.Entries.{boards-in}

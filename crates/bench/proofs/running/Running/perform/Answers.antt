@@ -1,3 +1,4 @@
+-- A commit into the part of the log that its call allows.
 use mathlib.Core.Path.{sym, ap, _∙_}
 use Prim.Native.Nat.{ℕ, _≤_}
 use native.Mathlib.Omega.{arith}

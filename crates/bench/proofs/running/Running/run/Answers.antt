@@ -1,5 +1,6 @@
+-- A run that is accepted is the rule's; the saver refuses none of them.
 use mathlib.Core.Path.{_≡_, sym, ap, _∙_, refl}
-use mathlib.Core.List.{List, [], _∷_, _++_, map}
+use mathlib.Core.List.{List, _++_, map}
 use Prim.Native.Nat.{ℕ, _≤_, _<_, _+_, _*_, _^_}
 use native.Mathlib.Omega.{arith}
 use lib.ListN.{length, set, getD, take}
@@ -11,9 +12,8 @@ use Rattle.addressing.specs.declared.batch.Batch.{Batch}
 use Rattle.addressing.specs.declared.batch.Batch.the-variants.{Empty, Single, Double}
 use Rattle.addressing.specs.Settings.{addressed-in, addressed}
 use Rattle.addressing.specs.Batches.{batched}
-use Rattle.model.specs.declared.item.Item.{Item}
 use Rattle.model.specs.declared.item.Item.the-variants.{Plus}
-use Rattle.model.specs.State.{Queues, no-queues, State, Answer, ran, issued}
+use Rattle.model.specs.State.{Queues, State, Answer, ran, issued}
 use Rattle.queues.specs.Entries.{queues-of, first-message, first-stands, board-in}
 use Rattle.queues.specs.Transits.{on-way}
 use Rattle.queues.proofs.Boards.{board-at}

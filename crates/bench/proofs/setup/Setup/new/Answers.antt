@@ -1,3 +1,4 @@
+-- The first of eight zeros are as many zeros as there are boards.
 use mathlib.Core.Path.{refl, ap}
 use mathlib.Core.List.{List}
 use Prim.Native.Nat.{min}

@@ -1,3 +1,4 @@
+-- The first savers have begun.
 use Rattle.bench.proofs.Begins.{Begun}
 use Rattle.bench.proofs.setup.Setup.start.Given as given
 
