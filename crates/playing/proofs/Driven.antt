@@ -10,7 +10,7 @@ use Rattle.addressing.specs.Settings.{Setting}
 use Rattle.fare_rack.specs.FareRacks.{rows-of-zeros}
 use Rattle.model.specs.declared.call.Call.{Call}
 use Rattle.model.specs.declared.outcome.Outcome.{Outcome}
-use Rattle.model.specs.State.{State, Answer, started}
+use Rattle.model.specs.State.{State, started}
 use Rattle.model.specs.Perform.{perform, answers, after, lines}
 use Rattle.model.specs.Outcomes.{outcome-of}
 use Rattle.bench.specs.declared.closed.Totals.{Totals}

@@ -6,8 +6,7 @@ use native.Mathlib.Omega.{arith}
 use lib.ListN.{getD}
 use Rattle.bus.specs.Reactions.{zeros}
 use Rattle.fare_rack.specs.FareRacks.{rows-of-zeros}
-use Rattle.model.specs.declared.call.Call.{Call}
-use Rattle.model.specs.Law.{Set-up, Lawful}
+use Rattle.model.specs.Law.{Set-up}
 use Rattle.model.proofs.Law.{law}
 use Rattle.playing.specs.Runs.{setting, starts, Lines-are-the-sequential-log}
 

@@ -1,5 +1,4 @@
 -- What the bench wrote into the memories, as the vectors hold it.
-use Prim.Native.Nat.{_≤_}
 use mathlib.Core.Path.{_≡_, ap, _∙_}
 use lib.ListN.{length, take}
 use borrow.Author.Needs.{needs}

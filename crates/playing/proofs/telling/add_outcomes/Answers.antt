@@ -1,7 +1,7 @@
 -- One outcome more, and the end.
 use Prim.Native.Nat.{_<_, min}
 use mathlib.Core.Path.{_≡_, ap, _∙_}
-use lib.ListN.{length, getD}
+use lib.ListN.{length}
 use borrow.Author.Needs.{needs}
 use Rattle.playing.proofs.Pieces.{outcome-more, outcomes-all}
 use Rattle.playing.proofs.telling.add_outcomes.Needs as need

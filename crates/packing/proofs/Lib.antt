@@ -1,0 +1,5 @@
+-- Lemmas of packing.
+mod Numerals
+mod Texts
+mod Listings
+mod Reasons
