@@ -10,14 +10,14 @@ use schedule::Call;
 use std::alloc::AllocError;
 
 // A number of 16 bits, the lowest byte first.
-pub fn push_two(bytes: &mut Vec<u8>, short: u16) -> Result<(), AllocError>
+pub(crate) fn push_two(bytes: &mut Vec<u8>, short: u16) -> Result<(), AllocError>
     ensures { λ r. ⌜ made r (λ _. vec-items (now (bytes .exit)) ≡ vec-items (now (bytes .entry)) ++ two short) ⌝ }
 {
     bytes.extend_from_slice(&short.to_le_bytes())
 }
 
 // A number of 32 bits, the lowest byte first.
-pub fn push_four(bytes: &mut Vec<u8>, long: u32) -> Result<(), AllocError>
+pub(crate) fn push_four(bytes: &mut Vec<u8>, long: u32) -> Result<(), AllocError>
     ensures { λ r. ⌜ made r (λ _. vec-items (now (bytes .exit)) ≡ vec-items (now (bytes .entry)) ++ four long) ⌝ }
 {
     bytes.extend_from_slice(&long.to_le_bytes())
@@ -41,7 +41,7 @@ fn push_offer(
 }
 
 // A call: its letter, and its numbers.
-pub fn push_call(bytes: &mut Vec<u8>, call: Call) -> Result<(), AllocError>
+pub(crate) fn push_call(bytes: &mut Vec<u8>, call: Call) -> Result<(), AllocError>
     ensures { λ r. ⌜ made r (λ _. vec-items (now (bytes .exit)) ≡ vec-items (now (bytes .entry)) ++ bytes-of call) ⌝ }
 {
     match call {
@@ -68,7 +68,7 @@ pub fn push_call(bytes: &mut Vec<u8>, call: Call) -> Result<(), AllocError>
 }
 
 // How many bytes a call takes.
-pub fn call_size(call: Call) -> usize
+pub(crate) fn call_size(call: Call) -> usize
     ensures { λ r. ⌜ r ≡ length (bytes-of call) ⌝ }
 {
     match call {

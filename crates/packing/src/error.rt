@@ -33,7 +33,7 @@ pub impl From<AllocError> for PackError as PackErrorFromAlloc {
 }
 
 // What was read of a line, with the line's number that the file layer knows.
-pub fn at_line<T>(line: usize, read: Result<T, Why>) -> Result<T, PackError>
+pub(crate) fn at_line<T>(line: usize, read: Result<T, Why>) -> Result<T, PackError>
     ensures { λ r. ⌜ r ≡ at-line line read ⌝ }
 {
     match read {

@@ -41,7 +41,7 @@ fn last_field(text: &[u8], most: u32) -> Result<(u32, &[u8]), Why>
 }
 
 // The line with the end time.
-pub fn read_end_line(text: &[u8]) -> Result<(u32, &[u8]), Why>
+pub(crate) fn read_end_line(text: &[u8]) -> Result<(u32, &[u8]), Why>
     ensures { λ r. ⌜ Cases r (λ x. (now (text .entry) ≡ end-line (x .0) ++ now (x .1)) × (x .0 < 2 ^ 32)) (λ why. First-fault (now (text .entry)) why) ⌝ }
 {
     let [b'e', b'n', b'd', time @ ..] = text else {
@@ -68,7 +68,7 @@ fn read_offer(fields: &[u8]) -> Result<(Call, &[u8]), Why>
 }
 
 // The line of a call, from the text behind its letter.
-pub fn read_call_line(letter: char, fields: &[u8]) -> Result<(Call, &[u8]), Why>
+pub(crate) fn read_call_line(letter: char, fields: &[u8]) -> Result<(Call, &[u8]), Why>
     ensures { λ r. ⌜ Cases r (λ x. (letter ∷ now (fields .entry) ≡ call-line (x .0) ++ now (x .1)) × Within (x .0)) (λ why. Line-fault (letter ∷ now (fields .entry)) why) ⌝ }
 {
     match letter {

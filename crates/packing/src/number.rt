@@ -19,7 +19,7 @@ fn digit(text: &[u8]) -> Option<(u8, &[u8])>
 }
 
 // A number that is at most `most`.
-pub fn read_number(text: &[u8], most: u32) -> Result<(u32, &[u8]), Why>
+pub(crate) fn read_number(text: &[u8], most: u32) -> Result<(u32, &[u8]), Why>
     ensures { λ r. ⌜ Cases r (λ x. (now (text .entry) ≡ decimal (x .0) ++ now (x .1)) × (x .0 ≤ most) × No-digit (now (x .1))) (λ why. Number-fault most (now (text .entry)) why) ⌝ }
 {
     let Some((first, behind)) = digit(text) else {

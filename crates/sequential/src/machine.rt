@@ -33,14 +33,28 @@ pub fn run<R: Rack>(
     count: usize,
     log: &mut [Message],
 ) -> Outcome
-    ensures log_holds_the_lines { λ r. ⌜ now (log .exit) ≡ in-front (ran (R·Rack .rules) end (now (starts .entry)) (take count (now (pending .entry))) (r .steps) .log) (now (log .entry)) ⌝ }
-    ensures each_step_wrote_a_line { λ r. ⌜ r .steps ≡ length (ran (R·Rack .rules) end (now (starts .entry)) (take count (now (pending .entry))) (r .steps) .log) ⌝ }
-    ensures pending_lies_in_front { λ r. ⌜ take (r .pending) (now (pending .exit)) ≡ ran (R·Rack .rules) end (now (starts .entry)) (take count (now (pending .entry))) (r .steps) .pending ⌝ }
+    ensures log_holds_the_lines { λ r.
+        let machine = ran (R·Rack .rules) end (now (starts .entry)) (take count (now (pending .entry))) (r .steps) in
+        ⌜ now (log .exit) ≡ in-front (machine .log) (now (log .entry)) ⌝ }
+    ensures each_step_wrote_a_line { λ r.
+        let machine = ran (R·Rack .rules) end (now (starts .entry)) (take count (now (pending .entry))) (r .steps) in
+        ⌜ r .steps ≡ length (machine .log) ⌝ }
+    ensures pending_lies_in_front { λ r.
+        let machine = ran (R·Rack .rules) end (now (starts .entry)) (take count (now (pending .entry))) (r .steps) in
+        ⌜ take (r .pending) (now (pending .exit)) ≡ machine .pending ⌝ }
     ensures pending_is_put_in_front { λ r. ⌜ now (pending .exit) ≡ pending-memory (R·Rack .rules) end (now (starts .entry)) (now (pending .entry)) count (r .steps) ⌝ }
-    ensures pending_is_counted { λ r. ⌜ r .pending ≡ length (ran (R·Rack .rules) end (now (starts .entry)) (take count (now (pending .entry))) (r .steps) .pending) ⌝ }
-    ensures savers_hold_the_words { λ r. ⌜ R·Rack .rows (now (rack .exit)) ≡ with-words (ran (R·Rack .rules) end (now (starts .entry)) (take count (now (pending .entry))) (r .steps) .words) (R·Rack .rows (now (rack .entry))) ⌝ }
-    ensures run_had_to_end { λ r. ⌜ next-in (length (now (pending .entry))) (most-lines (length (now (log .entry)))) (ran (R·Rack .rules) end (now (starts .entry)) (take count (now (pending .entry))) (r .steps)) ≡ Err (r .ended) ⌝ }
-    ensures run_could_go_on_before { λ r. ⌜ ((n : ℕ) → n < r .steps → isOk (next-in (length (now (pending .entry))) (most-lines (length (now (log .entry)))) (ran (R·Rack .rules) end (now (starts .entry)) (take count (now (pending .entry))) n)) ≡ true) ⌝ }
+    ensures pending_is_counted { λ r.
+        let machine = ran (R·Rack .rules) end (now (starts .entry)) (take count (now (pending .entry))) (r .steps) in
+        ⌜ r .pending ≡ length (machine .pending) ⌝ }
+    ensures savers_hold_the_words { λ r.
+        let machine = ran (R·Rack .rules) end (now (starts .entry)) (take count (now (pending .entry))) (r .steps) in
+        ⌜ R·Rack .rows (now (rack .exit)) ≡ with-words (machine .words) (R·Rack .rows (now (rack .entry))) ⌝ }
+    ensures run_had_to_end { λ r.
+        let machine = ran (R·Rack .rules) end (now (starts .entry)) (take count (now (pending .entry))) (r .steps) in
+        ⌜ next-in (length (now (pending .entry))) (most-lines (length (now (log .entry)))) machine ≡ Err (r .ended) ⌝ }
+    ensures run_could_go_on_before { λ r.
+        let machine = ran (R·Rack .rules) end (now (starts .entry)) (take count (now (pending .entry))) in
+        ⌜ ((n : ℕ) → n < r .steps → isOk (next-in (length (now (pending .entry))) (most-lines (length (now (log .entry)))) (machine n)) ≡ true) ⌝ }
     ensures log_is_lawful { λ r. ⌜ Lawful-log (setting-of (R·Rack .rules) end) (starts-of (R·Rack .rules) end (now (starts .entry))) (take count (now (pending .entry))) (take (r .steps) (now (log .exit))) ⌝ }
 {
     begin_all(rack, starts);
