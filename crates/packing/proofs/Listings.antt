@@ -1,7 +1,7 @@
 -- A whole text: its lines so far, and that it lists one schedule at most.
 use Prim.Native.Nat.{ℕ, _+_, _-_, _^_, _<_, _≤_}
-use mathlib.Core.List.{List, [], _∷_, _++_, append-assoc, append-nil, append-cancel-left}
-use mathlib.Core.Logic.{_⊎_, inl, inr}
+use mathlib.Core.List.{List, [], _∷_, _++_, append-assoc, append-nil}
+use mathlib.Core.Logic.{inl, inr}
 use mathlib.Core.Path.{_≡_, refl, sym, ap, ap₂, _∙_, subst}
 use native.Mathlib.Omega.{arith}
 use lib.ListN.{length, length-append, getD, take, drop}
@@ -15,7 +15,6 @@ use Rattle.schedule.specs.declared.call.Call.{Call}
 use Rattle.schedule.specs.declared.call.Call.the-variants.{Offer, Deliver, Run, Outlook, Commit}
 use Rattle.schedule.specs.declared.file.Fault.{Fault}
 use Rattle.schedule.specs.Layout.{four, bytes-of, Within, encode, Follows}
-use Rattle.schedule.specs.Reading.{reading}
 use Rattle.schedule.specs.Lines.{fault-text}
 use Rattle.schedule.proofs.Fronts.{opens-1}
 use Rattle.schedule.proofs.Readings.{written-is-read}
@@ -25,7 +24,7 @@ use Rattle.packing.specs.declared.error.Why.the-variants.{UnknownCall}
 use Rattle.packing.specs.declared.error.PackError.{PackError}
 use Rattle.packing.specs.declared.error.PackError.the-variants.{BadLine, TooLong, NoMemory}
 use Rattle.packing.specs.Wrong.{First-fault, Line-fault}
-use Rattle.packing.specs.Packing.{at-line, Packs, Opens-with, Breaks-off, Goes-past, Refuses, Lines-fit, Writes-the-lines}
+use Rattle.packing.specs.Packing.{at-line, Packs, Opens-with, Refuses, Lines-fit, Writes-the-lines}
 use Rattle.packing.proofs.Texts.{call-line-laid, same-line, no-line, no-first, same-end-line}
 
 -- what a line's number was added to

@@ -1,6 +1,5 @@
 -- A number at the front of a text is read in one way.
 use Prim.Native.Nat.{ℕ, _+_, _-_, _*_, _/_, _%_, _^_, _<_, _≤_}
-use mathlib.Core.Bool.{Bool, true, false, cond}
 use mathlib.Core.List.{List, [], _∷_, _++_, append-assoc, append-cancel-left}
 use mathlib.Core.Logic.{_⊎_, inl, inr, ⊎-elim}
 use mathlib.Core.Path.{_≡_, refl, sym, ap, _∙_, subst}
@@ -9,8 +8,7 @@ use lib.ListN.{length, getD, take, drop}
 use Rattle.std.proofs.shelf.Lists.{getD-append-left}
 use borrow.Author.Needs.{needs}
 use Rattle.std.specs.Written.{decimal}
-use Rattle.std.specs.Text.{In}
-use Rattle.std.proofs.shelf.Decimals.{decimal-digit, decimal-step, decimal-some, first-decimal, digits-decimal, value-decimal, same-from-decimal}
+use Rattle.std.proofs.shelf.Decimals.{decimal-digit, decimal-step, decimal-some, first-decimal, digits-decimal, value-decimal}
 use Rattle.std.proofs.shelf.Numerals.{Numerals, numerals-by-fold}
 use Rattle.std.specs.shelf.Lists.{All}
 use Rattle.schedule.proofs.Fronts.{opens-1}

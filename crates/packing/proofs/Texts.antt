@@ -1,22 +1,21 @@
 -- A line of a listing is read in one way, and where a line is at fault, none stands.
 use Prim.Native.Nat.{ℕ, _+_, _-_, _^_, _<_, _≤_}
 use mathlib.Core.Bool.{cond}
-use mathlib.Core.List.{List, [], _∷_, _++_, append-assoc, append-nil}
-use mathlib.Core.Logic.{_⊎_, inl, inr, ⊎-elim}
+use mathlib.Core.List.{List, [], _∷_, _++_, append-assoc}
+use mathlib.Core.Logic.{inl, inr}
 use mathlib.Core.Path.{_≡_, refl, sym, ap, ap₂, _∙_, subst}
 use native.Mathlib.Omega.{arith}
-use lib.Chars.{codes}
 use lib.Dec.{eqb}
 use lib.ListN.{length, getD, take, drop}
 use Rattle.std.specs.Written.{decimal}
-use Rattle.std.specs.shelf.Lists.{All, joined}
+use Rattle.std.specs.shelf.Lists.{All}
 use Rattle.std.proofs.shelf.Lists.{take-rest}
 use Rattle.schedule.specs.declared.call.Call.{Call}
 use Rattle.schedule.specs.declared.call.Call.the-variants.{Offer, Deliver, Run, Outlook, Commit}
 use Rattle.schedule.specs.Layout.{Within}
 use Rattle.listing.specs.Listed.{call-line, end-line}
 use Rattle.packing.specs.declared.error.Why.{Why}
-use Rattle.packing.specs.Wrong.{No-digit, Number-fault, Field-fault, Ending-fault, Past-field, Fields-fault, First-fault, mosts-of, Line-fault}
+use Rattle.packing.specs.Wrong.{No-digit, Field-fault, Ending-fault, Fields-fault, First-fault, Line-fault}
 use Rattle.packing.proofs.Numerals.{same-number, no-number}
 
 pub opens-end : (s : List ℕ) → 3 ≤ length s → getD s 0 0 ≡ 101 → getD s 1 0 ≡ 110 → getD s 2 0 ≡ 100 → s ≡ 101 ∷ 110 ∷ 100 ∷ take (length s - 3) (drop 3 s)

@@ -1,5 +1,7 @@
 // Schedules played to try the bench: every refusal in its order of checks, full rows, full transit, and rollbacks.
 #[cfg(test)]
+mod agreement;
+#[cfg(test)]
 mod commits;
 #[cfg(test)]
 mod deliveries;

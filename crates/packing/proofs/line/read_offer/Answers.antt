@@ -1,8 +1,6 @@
 -- A fault in the last field, and the four fields of an offer.
-use Prim.Native.Nat.{_<_}
 use mathlib.Core.List.{[], _∷_}
 use borrow.Author.Needs.{needs}
-use native.Mathlib.Omega.{arith}
 use Rattle.std.proofs.shelf.Results.{err-from-errBy}
 use Rattle.packing.proofs.Texts.{past-field, offer-laid}
 use Rattle.packing.proofs.line.read_offer.Needs as need

@@ -1,11 +1,10 @@
 -- The first digit, a zero before another digit, and one digit more.
-use Prim.Native.Nat.{_+_, _*_, _^_, _<_, _≤_}
+use Prim.Native.Nat.{_+_, _^_, _<_, _≤_}
 use mathlib.Core.Path.{_≡_, refl, sym, ap, _∙_}
-use mathlib.Core.List.{_++_, _∷_}
+use mathlib.Core.List.{_++_}
 use mathlib.Core.Logic.{inl, inr}
 use borrow.Author.Needs.{needs}
 use native.Mathlib.Omega.{arith}
-use Rattle.std.specs.Written.{decimal}
 use Rattle.std.proofs.shelf.Decimals.{decimal-digit}
 use Rattle.packing.proofs.Numerals.{number-more, leading-zero}
 use Rattle.packing.proofs.number.read_number.Needs as need
