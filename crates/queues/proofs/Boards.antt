@@ -1,4 +1,4 @@
--- One board of several. Assumes nothing.
+-- One board of several.
 use mathlib.Core.Path.{_≡_, refl, sym, ap, _∙_}
 use mathlib.Core.List.{List, [], _∷_, map}
 use Prim.Native.Nat.{ℕ, suc, zero, _<_, _≤_}

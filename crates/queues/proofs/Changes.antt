@@ -1,4 +1,4 @@
--- What arrivals leave of a board's queues. Assumes nothing.
+-- What arrivals leave of a board's queues.
 use mathlib.Core.Path.{_≡_, refl, sym, ap, _∙_}
 use mathlib.Core.Bool.{Bool, true, false, cond}
 use mathlib.Core.List.{List, [], _∷_, _++_, map, append-assoc}

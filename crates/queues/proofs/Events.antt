@@ -1,4 +1,4 @@
--- Standing events, split off the outputs. Assumes nothing.
+-- Standing events, split off the outputs.
 use mathlib.Core.Path.{_≡_, refl, sym, ap, _∙_}
 use mathlib.Core.List.{List, [], _∷_, _++_, map}
 use Prim.Native.Nat.{ℕ, suc, zero, _+_, _-_, _*_, _≤_, _<_}

@@ -1,4 +1,4 @@
--- Lists that are cut to so many places as they grow. Assumes nothing.
+-- Lists that are cut to so many places as they grow.
 use mathlib.Core.Path.{_≡_, refl, ap, _∙_}
 use mathlib.Core.List.{List, [], _∷_, _++_, map, append-assoc}
 use Prim.Native.Nat.{ℕ, suc, zero, _+_, _<_}

@@ -1,4 +1,4 @@
--- What the memory of a board's queues stands for. Assumes nothing.
+-- What the memory of a board's queues stands for.
 use mathlib.Core.Path.{_≡_, refl, sym, ap, _∙_}
 use mathlib.Core.List.{List, [], _∷_, map}
 use Prim.Native.Nat.{ℕ, suc, zero, _+_, _-_, _≤_}

@@ -1,4 +1,4 @@
--- The least of what is outstanding. Assumes nothing.
+-- The least of what is outstanding.
 use mathlib.Core.Path.{_≡_, refl, sym, ap, _∙_}
 use mathlib.Core.Logic.{inl, inr}
 use mathlib.Core.List.{List, [], _∷_, _++_}

@@ -1,4 +1,4 @@
--- A row that is changed behind a place: what is in front of the place stays. Assumes nothing.
+-- A row that is changed behind a place: what is in front of the place stays.
 use mathlib.Core.Path.{_≡_, sym, ap, _∙_}
 use mathlib.Core.List.{List, _++_, append-assoc}
 use Prim.Native.Nat.{ℕ, _+_, _-_, _≤_}

@@ -1,4 +1,4 @@
--- What searches in a row say of the rules of arrivals. Assumes nothing.
+-- What searches in a row say of the rules of arrivals.
 use mathlib.Core.Path.{_≡_, refl, sym, ap, _∙_}
 use mathlib.Core.Bool.{Bool, true, false, cond}
 use mathlib.Core.List.{List, [], _∷_, map}

@@ -1,4 +1,4 @@
--- What a commit leaves of a board's queues. Assumes nothing.
+-- What a commit leaves of a board's queues.
 use mathlib.Core.Path.{_≡_, sym, ap, _∙_}
 use mathlib.Core.List.{List, [], _∷_, _++_, map, append-nil}
 use Prim.Native.Nat.{ℕ, suc, zero, _+_, _-_, _≤_, _<_}

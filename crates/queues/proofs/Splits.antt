@@ -1,4 +1,4 @@
--- Parts of a list between two places. Assumes nothing.
+-- Parts of a list between two places.
 use mathlib.Core.Path.{_≡_, sym, ap, _∙_}
 use mathlib.Core.List.{List, _∷_, _++_}
 use Prim.Native.Nat.{ℕ, suc, _+_, _-_, _≤_, _<_}

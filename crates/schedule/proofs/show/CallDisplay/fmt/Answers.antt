@@ -1,3 +1,4 @@
+-- The pieces of the text of an offer, one behind the other.
 use mathlib.Core.List.{append-assoc}
 use borrow.Author.Needs.{needs}
 use Rattle.schedule.proofs.show.CallDisplay.fmt.Needs as need
