@@ -1,4 +1,6 @@
 // What the sends of a reaction become on the bus: addressed and numbered messages.
+#![tactic(auto)]
+
 mod batch;
 mod origin;
 

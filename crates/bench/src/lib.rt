@@ -1,4 +1,6 @@
 // The bench: the boards of a rack run ahead of one another, roll back, and commit what is final, as its driver's calls say.
+#![tactic(auto)]
+
 mod closed;
 mod driving;
 mod running;

@@ -1,4 +1,6 @@
 // The boards of the bus: the interface that every board has, and three kinds of board behind it.
+#![tactic(auto)]
+
 mod board;
 mod cases;
 mod fare_computer;

@@ -1,4 +1,6 @@
 // What travels on the bus: messages, a board's four words, and what a board sends.
+#![tactic(auto)]
+
 mod blank;
 mod kinds;
 mod order;

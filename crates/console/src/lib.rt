@@ -1,4 +1,6 @@
 // The edges of the programs: a schedule file from standard input, and text to standard output.
+#![tactic(auto)]
+
 use std::io;
 use std::io::{Read, Write};
 

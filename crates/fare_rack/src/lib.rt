@@ -1,4 +1,6 @@
 // The rack of the programs: a fare computer at address 0, a reader at 1 and a ticker at 2.
+#![tactic(auto)]
+
 ghost use Rattle.std.specs.Prelude.{◌≡◌, length};
 ghost use Rattle.fare_rack.specs.FareRacks.{fare_rules, fare_rows, rows_of_zeros};
 

@@ -1,4 +1,6 @@
 // Lists the calls of the schedule file on standard input, or its fault.
+#![tactic(auto)]
+
 use anyhow::anyhow;
 use console::{read_file, write_text};
 use listing::list;

@@ -1,4 +1,6 @@
 // `list` on a file that is one byte too long: only a run can show that this byte is read, since no contract speaks of input.
+#![tactic(auto)]
+
 use anyhow::anyhow;
 use console::{read_file, write_text};
 use listing::list;

@@ -1,4 +1,6 @@
 // What is printed of a schedule file: its end time and its calls, a line for each, or its fault.
+#![tactic(auto)]
+
 ghost use Rattle.std.specs.Prelude.{◌≡◌, ◌++◌, IfOk, string_bytes, OnOk};
 ghost use Rattle.std.specs.List.{flat_map};
 ghost use Rattle.listing.specs.Listed.{call_line, listed};

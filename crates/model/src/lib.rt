@@ -1,4 +1,6 @@
 // The rules of the bench, and the law of runs: what each call does, over plain lists, and what every list of calls comes to.
+#![tactic(auto)]
+
 mod call;
 mod front;
 mod item;

@@ -1,4 +1,6 @@
 // The reference of a schedule: what the one-by-one machine makes of its offers, as text.
+#![tactic(auto)]
+
 ghost use Rattle.std.specs.Prelude.{◌≡◌, IfOk, string_bytes};
 ghost use Rattle.oracle.specs.Laws.{LogIsLawful, NothingComesAfterTheEnd};
 ghost use Rattle.oracle.specs.Texts.{reference_text};

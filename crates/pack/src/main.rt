@@ -1,4 +1,6 @@
 // Packs the schedule that is listed on standard input: its bytes go to standard output, or what is wrong to standard error.
+#![tactic(auto)]
+
 use anyhow::anyhow;
 use packing::pack;
 use std::io::{Read, Write};

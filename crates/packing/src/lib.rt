@@ -1,4 +1,6 @@
 // Schedules that people can write: from the text that is listed of a schedule file back to the file's bytes.
+#![tactic(auto)]
+
 mod bytes;
 mod error;
 mod file;

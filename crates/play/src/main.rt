@@ -1,4 +1,6 @@
 // Plays the schedule file on standard input on a bench of three boards, and prints what its calls came to, or its fault.
+#![tactic(auto)]
+
 use anyhow::anyhow;
 use console::{read_file, write_text};
 use playing::play;

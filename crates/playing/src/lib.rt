@@ -1,4 +1,6 @@
 // A schedule file played on a bench of a fare computer, a reader and a ticker: the text that is printed of it.
+#![tactic(auto)]
+
 ghost use Rattle.std.specs.Prelude.{◌≡◌, ◌++◌, map, IfOk, string_bytes, OnOk};
 ghost use Rattle.playing.specs.Asked.{asked};
 ghost use Rattle.playing.specs.Runs.{run_text, play_text, LinesAreTheSequentialLog};

@@ -1,4 +1,6 @@
 // Playing for callers in C and Rust: from a schedule's bytes to the bytes of the listing.
+#![tactic(auto)]
+
 ghost use Rattle.std.specs.Prelude.{◌≡◌, ◌^◌, ◌<◌, length};
 ghost use Rattle.playing_c.specs.Copies.{Answers};
 

@@ -1,4 +1,6 @@
 // What waits at the boards and what is in transit, in memory of fixed size.
+#![tactic(auto)]
+
 mod blank;
 mod board;
 mod effect;

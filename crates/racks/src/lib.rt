@@ -1,4 +1,6 @@
 // Racks: savers side by side, each called by its address.
+#![tactic(auto)]
+
 mod one;
 mod pair;
 mod rack;

@@ -1,4 +1,6 @@
 // Prints what the one-by-one machine makes of the schedule file on standard input, or its fault.
+#![tactic(auto)]
+
 use anyhow::anyhow;
 use console::{read_file, write_text};
 use oracle::reference_log;

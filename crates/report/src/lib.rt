@@ -1,4 +1,6 @@
 // What the printed texts share: want of memory as their one error, lines of numbers, and the lines of a log.
+#![tactic(auto)]
+
 ghost use Rattle.std.specs.Prelude.{◌≡◌, ◌++◌, string_bytes, OnOk};
 ghost use Rattle.std.specs.List.{flat_map};
 ghost use Rattle.report.specs.Lines.{log_line};

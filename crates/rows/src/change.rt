@@ -11,7 +11,7 @@ use crate::shift::{close, open};
 // Places a record before the first greater one. Where the row fills the memory it refuses, and nothing changes.
 pub fn put<T: TotalOrder>(memory: &mut [T], count: usize, item: T) -> Result<usize, Refusal>
     ensures answer { result ≡ put_answer memory.old count }
-    ensures after { memory.new ≡ put_memory earlier memory.old count item }
+    ensures after { memory.new ≡ put_memory T.earlier memory.old count item }
 {
     let end = row_len(memory, count);
     if end == memory.len() {

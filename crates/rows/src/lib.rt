@@ -1,6 +1,8 @@
 // Ordered rows over lent memory, for every record that carries a total order.
 //
 // A row lies in front of a memory: it is the first `count` records of a slice. A count beyond the slice is cut to it.
+#![tactic(auto)]
+
 mod change;
 mod front;
 mod order;

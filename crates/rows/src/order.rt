@@ -15,7 +15,7 @@ pub trait TotalOrder: Copy {
 
 // Whether neither record comes before the other: in a total order these are equal records.
 pub(crate) fn alike<T: TotalOrder>(one: &T, other: &T) -> bool
-    ensures { result ≡ same earlier one.now other.now }
+    ensures { result ≡ same T.earlier one.now other.now }
 {
     !one.before(other) && !other.before(one)
 }

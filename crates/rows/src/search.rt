@@ -7,7 +7,7 @@ use crate::order::{TotalOrder, alike};
 
 // The place of the first record greater than this one, or the row's end.
 pub fn place<T: TotalOrder>(memory: &[T], count: usize, item: &T) -> usize
-    ensures { result ≡ place_of earlier item.now (take count memory.now) }
+    ensures { result ≡ place_of T.earlier item.now (take count memory.now) }
 {
     let row = row(memory, count);
     for (i, held) in row.iter().enumerate() {
@@ -20,7 +20,7 @@ pub fn place<T: TotalOrder>(memory: &[T], count: usize, item: &T) -> usize
 
 // The place of the first record that equals this one.
 pub fn find<T: TotalOrder>(memory: &[T], count: usize, item: &T) -> Option<usize>
-    ensures { result ≡ first_of earlier item.now (take count memory.now) }
+    ensures { result ≡ first_of T.earlier item.now (take count memory.now) }
 {
     let row = row(memory, count);
     for (i, held) in row.iter().enumerate() {
@@ -33,7 +33,7 @@ pub fn find<T: TotalOrder>(memory: &[T], count: usize, item: &T) -> Option<usize
 
 // The place of the last record that equals this one.
 pub fn find_last<T: TotalOrder>(memory: &[T], count: usize, item: &T) -> Option<usize>
-    ensures { result ≡ last_of earlier item.now (take count memory.now) }
+    ensures { result ≡ last_of T.earlier item.now (take count memory.now) }
 {
     let row = row(memory, count);
     for i in (0..row.len()).rev() {
@@ -46,7 +46,7 @@ pub fn find_last<T: TotalOrder>(memory: &[T], count: usize, item: &T) -> Option<
 
 // The lesser of a record and the least of the records behind it, if there are any.
 fn nearer<T: TotalOrder>(item: T, rest: Option<T>) -> Option<T>
-    ensures { result ≡ nearer earlier item rest }
+    ensures { result ≡ nearer T.earlier item rest }
 {
     match rest {
         Some(other) if other.before(&item) => Some(other),
@@ -56,7 +56,7 @@ fn nearer<T: TotalOrder>(item: T, rest: Option<T>) -> Option<T>
 
 // The least record of a row, if it has any.
 pub fn least<T: TotalOrder>(row: &[T]) -> Option<T>
-    ensures { result ≡ least earlier row.now }
+    ensures { result ≡ least T.earlier row.now }
 {
     let mut best = None;
     for i in (0..row.len()).rev() {

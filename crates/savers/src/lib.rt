@@ -1,4 +1,6 @@
 // Savers keep a board's words, so that messages that it took can be taken back.
+#![tactic(auto)]
+
 mod checkpoints;
 mod full_copies;
 mod refusal;

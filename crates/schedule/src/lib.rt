@@ -1,4 +1,6 @@
 // Schedule files: the end time and the calls of one run of the bench, read from bytes in three layers.
+#![tactic(auto)]
+
 mod call;
 mod cases;
 mod file;

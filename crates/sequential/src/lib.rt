@@ -1,4 +1,6 @@
 // The one-by-one machine: it takes one message after the other, always the least that is pending.
+#![tactic(auto)]
+
 mod advance;
 mod begin;
 mod cases;

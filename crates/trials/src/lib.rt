@@ -1,4 +1,6 @@
 // Schedules played to try the bench: every refusal in its order of checks, full rows, full transit, and rollbacks.
+#![tactic(auto)]
+
 #[cfg(test)]
 mod agreement;
 #[cfg(test)]

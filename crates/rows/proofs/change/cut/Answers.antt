@@ -3,4 +3,4 @@ use Rattle.std.proofs.Common.{arith, length-take}
 use Rattle.rows.proofs.change.cut.Goals as goal
 
 pub returns : goal.returns
-returns g c = simp length-take (omega (arith, simp length-take at c.row-len.ensures.len))
+returns g c = simp length-take (omega (arith, simp length-take at c.row_len.ensures.len))

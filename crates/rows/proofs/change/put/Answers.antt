@@ -10,8 +10,8 @@ open-requires g c =
 
 pub returns : goal.returns
 returns g c =
-    let len = c.row-len-end.ensures.len in
+    let len = c.row_len-end.ensures.len in
     record {
-      answer = put_answers c.args.count c.args.memory.now c.row-len-end.result len (omega arith);
-      after = c.open.ensures ∙ put_is c.args.count c.args.memory.now g.T.TotalOrder.earlier c.args.item c.place-at.result c.row-len-end.result c.place-at.ensures len (omega arith);
+      answer = put_answers c.args.count c.args.memory.now c.row_len-end.result len (omega arith);
+      after = c.open.ensures ∙ put_is c.args.count c.args.memory.now g.T.TotalOrder.earlier c.args.item c.place-at.result c.row_len-end.result c.place-at.ensures len (omega arith);
     }

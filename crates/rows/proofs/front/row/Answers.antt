@@ -6,5 +6,5 @@ use Rattle.rows.proofs.front.row.Goals as goal
 pub returns : goal.returns
 returns g c =
     let memory = c.args.memory.now in
-    let end : c.row-len-end.result - 0 ≡ length (take c.args.count memory) = omega arith in
+    let end : c.row_len-end.result - 0 ≡ length (take c.args.count memory) = omega arith in
     ap (λ n. take n memory) end ∙ take_own c.args.count memory

@@ -4,4 +4,4 @@ use Rattle.rows.proofs.Shifts.{close_is}
 use Rattle.rows.proofs.shift.close.Goals as goal
 
 pub returns : goal.returns
-returns g c = c.copy-within.ensures.after ∙ close_is c.args.memory.now c.args.at c.args.gone c.args.end c.requires.0
+returns g c = c.copy_within.ensures.after ∙ close_is c.args.memory.now c.args.at c.args.gone c.args.end c.requires.0

@@ -4,4 +4,4 @@ use Rattle.rows.proofs.Shifts.{open_is}
 use Rattle.rows.proofs.shift.open.Goals as goal
 
 pub returns : goal.returns
-returns g c = ap (λ memory. set memory c.args.at c.args.item) c.copy-within.ensures.after ∙ open_is c.args.memory.now c.args.at c.args.end c.requires.0 c.args.item c.requires.1
+returns g c = ap (λ memory. set memory c.args.at c.args.item) c.copy_within.ensures.after ∙ open_is c.args.memory.now c.args.at c.args.end c.requires.0 c.args.item c.requires.1

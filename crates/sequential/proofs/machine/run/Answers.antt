@@ -8,7 +8,7 @@ use Rattle.sequential.proofs.machine.run.Goals as goal
 pub loop-ended-init : goal.loop-ended-init
 loop-ended-init g c =
     run.going_start g.R.Rack.rules c.args.end c.args.starts.now _ _ _ _ _
-    (g.R.Rack.rows c.args.rack.now) c.begin-all.ensures (omega arith)
+    (g.R.Rack.rows c.args.rack.now) c.begin_all.ensures (omega arith)
     (length c.row-held.result.now) (ap length c.row-held.ensures)
 
 pub returns-in-Err : goal.returns-in-Err
@@ -23,14 +23,14 @@ returns-in-Err g c =
     ∙ ap (λ (p : ℕ). next_of p lines n (take c.loop-ended.held c.loop-ended.pending)) (sym c.loop-ended.auto.pending)
     ∙ sym c.in-Err.ensures in
     record {
-      log-holds-the-lines = inv.tied.logged;
-      each-step-wrote-a-line = sym inv.tied.lined;
-      pending-lies-in-front = inv.tied.waits;
-      pending-is-put-in-front = inv.kept;
-      pending-is-counted = held_is _ _ _ _ _ _ _ _ _ _ _ inv.tied;
-      savers-hold-the-words = run.rows_at_end _ _ _ _ _ _ _ _ (g.R.Rack.rows c.args.rack.now) c.begin-all.ensures (omega arith) _ _ _ _ _ _ inv;
-      run-had-to-end = ap (λ (l : ℕ). next_in places l (at n)) (sym c.min-lines.ensures) ∙ told;
-      run-could-go-on-before = λ j h. ap (λ (l : ℕ). is_ok (next_in places l (at j))) (sym c.min-lines.ensures) ∙ inv.goes j h;
+      log_holds_the_lines = inv.tied.logged;
+      each_step_wrote_a_line = sym inv.tied.lined;
+      pending_lies_in_front = inv.tied.waits;
+      pending_is_put_in_front = inv.kept;
+      pending_is_counted = held_is _ _ _ _ _ _ _ _ _ _ _ inv.tied;
+      savers_hold_the_words = run.rows_at_end _ _ _ _ _ _ _ _ (g.R.Rack.rows c.args.rack.now) c.begin_all.ensures (omega arith) _ _ _ _ _ _ inv;
+      run_had_to_end = ap (λ (l : ℕ). next_in places l (at n)) (sym c.min-lines.ensures) ∙ told;
+      run_could_go_on_before = λ j h. ap (λ (l : ℕ). is_ok (next_in places l (at j))) (sym c.min-lines.ensures) ∙ inv.goes j h;
       log_is_lawful = run.lawful_log _ _ _ _ _ _ _ _ _ _ _ _ _ _ inv;
     }
 
@@ -51,6 +51,6 @@ loop-ended-smaller g c =
 pub loop-ended-preserved : goal.loop-ended-preserved
 loop-ended-preserved g c =
     run.going_turn _ _ _ _ _ _ _ _ _ _ _ _ _ _ c.loop-ended.invariant _ c.loop-ended.auto.pending c.in-Ok.message c.in-Ok.ensures
-    (g.met.R.Rack.level c.begin-all.new.rack) (omega (arith, c.min-lines.ensures)) _ _ _ _ _ _ _
+    (g.met.R.Rack.level c.begin_all.new.rack) (omega (arith, c.min-lines.ensures)) _ _ _ _ _ _ _
     c.discard-left.ensures.answer c.discard-left.ensures.after c.advance-batch.ensures.left c.advance-batch.ensures.answer c.advance-batch.ensures.counted
     c.append-held.ensures.answer c.append-held.ensures.after (omega (arith, c.append-held.auto.pending, c.discard-left.auto.pending))

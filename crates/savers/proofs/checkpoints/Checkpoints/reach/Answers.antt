@@ -9,7 +9,7 @@ loop-message-init g c = c.load.ensures
 
 pub loop-message-preserved : goal.loop-message-preserved
 loop-message-preserved g c =
-    after_more g.B.Board.rule _ _ _ _ c.loop-message.message-index c.loop-message-test.true c.loop-message.invariant c.react.ensures.leaves-the-rules-words
+    after_more g.B.Board.rule _ _ _ _ c.loop-message.message-index c.loop-message-test.true c.loop-message.invariant c.react.ensures.leaves_the_rules_words
 
 pub returns : goal.returns
 returns g c =

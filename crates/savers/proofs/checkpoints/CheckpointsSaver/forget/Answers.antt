@@ -19,6 +19,6 @@ returns g c =
     let rule = g.B.Board.rule in
     record {
       left = replayed_forgot rule s.checkpoints s.messages s.first s.held c.args.n _ _ s.low s.within s.marked s.noted
-          c.if-n-self.false c.copy-within.ensures.after c.copy-within-2.ensures.after;
+          c.if-n-self.false c.copy_within.ensures.after c.copy_within-2.ensures.after;
       answer = sym (answers_done _ s.held (replayed_long rule s.checkpoints s.messages s.first s.held) c.args.n c.if-n-self.false);
     }

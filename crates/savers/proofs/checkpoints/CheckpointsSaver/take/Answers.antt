@@ -21,9 +21,9 @@ returns-then-place-eq0 g c =
     let m = c.args.message.now in
     record {
       left = taken_at_checkpoint rule s.checkpoints s.messages s.first s.held m c.words.result s.low s.marked c.if-self-ge-CAPACITY.false c.if-place-eq0.true
-          (c.words.ensures ∙ c.react-sends.ensures.leaves-the-rules-words ∙ ap (λ w. (rule w m).words) c.reach-board.ensures);
+          (c.words.ensures ∙ c.react-sends.ensures.leaves_the_rules_words ∙ ap (λ w. (rule w m).words) c.reach-board.ensures);
       answer = replayed_answers rule s.checkpoints s.messages s.first s.held m _ c.if-self-ge-CAPACITY.false
-          (c.react-sends.ensures.answers-the-rules-sends ∙ ap (λ w. (rule w m).sends) c.reach-board.ensures);
+          (c.react-sends.ensures.answers_the_rules_sends ∙ ap (λ w. (rule w m).sends) c.reach-board.ensures);
     }
 
 pub returns-else-place-eq0 : goal.returns-else-place-eq0
@@ -34,5 +34,5 @@ returns-else-place-eq0 g c =
     record {
       left = taken_between rule s.checkpoints s.messages s.first s.held m s.low s.noted c.if-self-ge-CAPACITY.false c.if-place-eq0.false;
       answer = replayed_answers rule s.checkpoints s.messages s.first s.held m _ c.if-self-ge-CAPACITY.false
-          (c.react-sends.ensures.answers-the-rules-sends ∙ ap (λ w. (rule w m).sends) c.reach-board.ensures);
+          (c.react-sends.ensures.answers_the_rules_sends ∙ ap (λ w. (rule w m).sends) c.reach-board.ensures);
     }

@@ -8,6 +8,6 @@ pub returns : goal.returns
 returns g c =
     let s = c.args.self.now in
     record {
-      left = copy_forgot s.copies s.held s.within s.sized c.args.n _ c.if-n-self.false c.copy-within.ensures.after;
+      left = copy_forgot s.copies s.held s.within s.sized c.args.n _ c.if-n-self.false c.copy_within.ensures.after;
       answer = sym (answers_done _ s.held (long s.copies s.held s.within s.sized) c.args.n c.if-n-self.false);
     }

@@ -10,7 +10,7 @@ returns g c =
     let m = c.args.message.now in
     record {
       left = copy_taken s.copies s.held s.within s.sized rule m c.words.result c.if-self-ge-CAPACITY.false
-          (c.words.ensures ∙ c.react-sends.ensures.leaves-the-rules-words ∙ ap (λ w. (rule w m).words) c.load.ensures);
+          (c.words.ensures ∙ c.react-sends.ensures.leaves_the_rules_words ∙ ap (λ w. (rule w m).words) c.load.ensures);
       answer = copy_answers s.copies s.held s.within s.sized rule m _ c.if-self-ge-CAPACITY.false
-          (c.react-sends.ensures.answers-the-rules-sends ∙ ap (λ w. (rule w m).sends) c.load.ensures);
+          (c.react-sends.ensures.answers_the_rules_sends ∙ ap (λ w. (rule w m).sends) c.load.ensures);
     }
