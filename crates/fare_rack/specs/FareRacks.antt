@@ -7,6 +7,9 @@ use Rattle.boards.specs.declared.ticker.Ticker.{Ticker}
 use Rattle.boards.specs.FareComputer.{fare_computer_rule}
 use Rattle.boards.specs.Reader.{reader_rule}
 use Rattle.boards.specs.Ticker.{ticker_rule}
+use Rattle.boards.specs.contracts.fare_computer.FareComputerBoard.TheImpl.{ghosts as computer_board}
+use Rattle.boards.specs.contracts.reader.ReaderBoard.TheImpl.{ghosts as reader_board}
+use Rattle.boards.specs.contracts.ticker.TickerBoard.TheImpl.{ghosts as ticker_board}
 use Rattle.savers.specs.declared.full_copies.FullCopies.{FullCopies}
 use Rattle.savers.specs.declared.checkpoints.Checkpoints.{Checkpoints}
 use Rattle.savers.specs.Rows.{Row}
@@ -21,7 +24,7 @@ fare_rules = fare_computer_rule ∷ reader_rule ∷ ticker_rule ∷ []
 
 -- the type of the rack
 abbrev pub Three : Type 0
-Three = Pair (One (FullCopies FareComputer)) (Pair (One (Checkpoints Reader)) (One (FullCopies Ticker)))
+Three = Pair (One (FullCopies FareComputer computer_board)) (Pair (One (Checkpoints Reader reader_board)) (One (FullCopies Ticker ticker_board)))
 
 -- the row of each saver, by address
 abbrev pub fare_rows : Three → List Row
