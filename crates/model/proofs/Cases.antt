@@ -53,13 +53,13 @@ module _ (q : Queues) (e : Event) (l : StandsLast q e) where
 
   opens : insert message_before m (undo (length q.standing) q).open_ones ≡ m ∷ q.open_ones
   opens = rw (drop_all (length q.standing) q.standing (omega arith))
-      (first_inserted m q.open_ones (sorted_right (messages l.others) (m ∷ q.open_ones) ordered).0 l.not-open)
+      (first_inserted m q.open_ones (sorted_right (messages l.others) (m ∷ q.open_ones) ordered).0 l.not_open)
 
   all_stand : take (length q.standing) q.standing ≡ q.standing
   all_stand = take_all (length q.standing) q.standing (omega arith)
 
   plus : arrive (Plus m) q ≡ record { stay = length q.standing; needs_place = true; queues = with_open (m ∷ q.open_ones) q }
-  plus = rw (l.not-early, stay)
+  plus = rw (l.not_early, stay)
       (λ i. record { stay = length q.standing; needs_place = true; queues = record { standing = all_stand i; open_ones = opens i; early = q.early; sent = q.sent } })
 
   minus : arrive (Minus m) (with_open (m ∷ q.open_ones) q) ≡ record { stay = length q.standing; needs_place = false; queues = q }

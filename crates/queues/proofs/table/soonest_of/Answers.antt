@@ -20,7 +20,7 @@ loop-i-preserved c =
     let b = get_or bs (i - 1) c.index-entries-i.result in
     let e : c.front.result ≡ front_of (queues_of b) = c.front.ensures ∙ ap (λ (x : BoardQueues). front_of (queues_of x)) c.index-entries-i.is in
     let n : i ≡ i - 1 + 1 = omega arith in
-    c.nearer-front-best.ensures ∙ ap (λ (x : Option Message). nearer_front (i - 1) x c.loop-i.best) e
+    c.nearer_front-best.ensures ∙ ap (λ (x : Option Message). nearer_front (i - 1) x c.loop-i.best) e
     ∙ ap (nearer_front (i - 1) (front_of (queues_of b))) (c.loop-i.invariant ∙ ap (λ (k : ℕ). soonest k (map queues_of (drop i bs))) n)
     ∙ sym (ap (λ (xs : List BoardQueues). soonest (i - 1) (map queues_of xs)) (back_one bs i c.index-entries-i.result (omega arith) (omega arith)))
 

@@ -10,4 +10,4 @@ pub open-requires : goal.open-requires
 open-requires c =
     let q = queues_of c.args.self.now in
     let n = arrive_needs c.args.item.now q ∙ ap needs_by (sym c.in-Opens.ensures) in
-    omega (arith, ap room c.roll-back.ensures, room_undo c.in-Opens.stay q, c.requires n)
+    omega (arith, ap room c.roll_back.ensures, room_undo c.in-Opens.stay q, c.requires n)

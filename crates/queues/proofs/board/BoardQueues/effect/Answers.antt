@@ -25,22 +25,22 @@ returns-else-holds c =
 pub returns-then-holds-2 : goal.returns-then-holds-2
 returns-then-holds-2 c =
     let q = queues_of c.args.self.now in
-    let unreacted = c.if-holds-2.ensures ∙ ap (has c.in-Minus.message) c.open-ones.ensures in
+    let unreacted = c.if-holds-2.ensures ∙ ap (has c.in-Minus.message) c.open_ones.ensures in
     sym (ap (λ i. effect_of i q) c.in-Minus.is ∙ cond-true _ _ _ (sym unreacted))
 
 pub returns-then-holds-3 : goal.returns-then-holds-3
 returns-then-holds-3 c =
     let b = c.args.self.now in
     let m = c.in-Minus.message in
-    let unreacted = c.if-holds-2.ensures ∙ ap (has m) c.open-ones.ensures in
+    let unreacted = c.if-holds-2.ensures ∙ ap (has m) c.open_ones.ensures in
     let stands = c.if-holds-3.ensures ∙ ap (has m) (c.row-else-holds-2.ensures ∙ sym (standing_messages b)) in
-    ap Undoes (c.saturating-sub.ensures ∙ ap (λ x. x - 1) (placed_is b m c.place-behind.result c.place-behind.ensures))
+    ap Undoes (c.saturating_sub.ensures ∙ ap (λ x. x - 1) (placed_is b m c.place-behind.result c.place-behind.ensures))
     ∙ sym (ap (λ i. effect_of i (queues_of b)) c.in-Minus.is ∙ cond-false _ _ _ (sym unreacted) ∙ cond-true _ _ _ (sym stands))
 
 pub returns-else-holds-3 : goal.returns-else-holds-3
 returns-else-holds-3 c =
     let b = c.args.self.now in
     let m = c.in-Minus.message in
-    let unreacted = c.if-holds-2.ensures ∙ ap (has m) c.open-ones.ensures in
+    let unreacted = c.if-holds-2.ensures ∙ ap (has m) c.open_ones.ensures in
     let stands = c.if-holds-3.ensures ∙ ap (has m) (c.row-else-holds-2.ensures ∙ sym (standing_messages b)) in
     sym (ap (λ i. effect_of i (queues_of b)) c.in-Minus.is ∙ cond-false _ _ _ (sym unreacted) ∙ cond-false _ _ _ (sym stands))

@@ -7,5 +7,5 @@ zeros zero k = omega arith
 zeros (suc n) zero = omega arith
 zeros (suc n) (suc k) = zeros n k
 
-pub invariant-of-result : goal.invariant-of-result
-invariant-of-result c = ((refl, refl, refl, refl), (omega arith, (omega arith, (refl, (zeros 32, tt)))))
+pub invariant_of-result : goal.invariant_of-result
+invariant_of-result c = record { sized = (refl, refl, refl, refl); fits = omega arith; stands = omega arith; tallies = refl; twos = zeros 32 }

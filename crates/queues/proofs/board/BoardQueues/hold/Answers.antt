@@ -8,11 +8,11 @@ use Rattle.queues.specs.Entries.{queues_of}
 use Rattle.queues.proofs.Memories.{room_is}
 use Rattle.queues.proofs.board.BoardQueues.hold.Goals as goal
 
-pub invariant-of-self : goal.invariant-of-self
-invariant-of-self c =
+pub invariant_of-self : goal.invariant_of-self
+invariant_of-self c =
     let q = c.args.self.now in
     let n = put_count message_before q.early q.early_count 32 c.args.message c.put.new.memory c.in-Ok.len q.sized.3 c.in-Ok.ensures.answer c.put.ensures.after in
-    ((omega arith, omega arith, omega arith, omega arith), (omega (arith, n, room_is q, c.requires), (q.stands, (q.tallies, (q.twos, tt)))))
+    record { sized = (omega arith, omega arith, omega arith, omega arith); fits = omega (arith, n, room_is q, c.requires); stands = q.stands; tallies = q.tallies; twos = q.twos }
 
 pub returns-in-Ok : goal.returns-in-Ok
 returns-in-Ok c =

@@ -13,8 +13,8 @@ use Rattle.queues.proofs.Parts.{part_length, part_row, part_size, part_written}
 use Rattle.queues.proofs.Memories.{room_is}
 use Rattle.queues.proofs.board.BoardQueues.open.Goals as goal
 
-pub invariant-of-self : goal.invariant-of-self
-invariant-of-self c =
+pub invariant_of-self : goal.invariant_of-self
+invariant_of-self c =
     let q = c.args.self.now in
     let s = q.standing in
     let within : s ≤ length q.messages = omega (arith, q.sized.0, q.fits, q.stands) in
@@ -22,7 +22,7 @@ invariant-of-self c =
     let places = part_length q.messages s within in
     let n = put_count message_before part (q.count - s) (length q.messages - s) c.args.message c.put.new.memory c.in-Ok.len places c.in-Ok.ensures.answer c.put.ensures.after in
     let size = part_size q.messages s within c.put.new.memory (omega (arith, places)) in
-    ((omega (arith, size, q.sized.0), omega arith, omega arith, omega arith), (omega (arith, n, room_is q, c.requires, q.stands), (omega arith, (q.tallies, (q.twos, tt)))))
+    record { sized = (omega (arith, size, q.sized.0), omega arith, omega arith, omega arith); fits = omega (arith, n, room_is q, c.requires, q.stands); stands = omega arith; tallies = q.tallies; twos = q.twos }
 
 pub returns-in-Ok : goal.returns-in-Ok
 returns-in-Ok c =
@@ -42,8 +42,8 @@ returns-in-Ok c =
     ap (λ x. F x (take (s + c.in-Ok.len - s) (drop s M))) e.0
     ∙ ap (F (take s q.messages)) (e.1 ∙ ap (insert message_before m) (part_row q.messages s within n))
 
-pub returns-in-default : goal.returns-in-default
-returns-in-default c =
+pub returns-in_default : goal.returns-in_default
+returns-in_default c =
     let q = c.args.self.now in
     let s = q.standing in
     let n = q.count - s in
@@ -51,4 +51,4 @@ returns-in-default c =
     let part = take (length q.messages - s) (drop s q.messages) in
     let places = part_length q.messages s within in
     let room : length (take n part) < length part = omega (arith, length-take n part, places, room_is q, c.requires, q.sized.0, q.stands) in
-    absurd (c.in-default.not-Ok _ (c.put.ensures.answer ∙ cond-true _ _ _ (lt-ltb (length (take n part)) (length part) room)))
+    absurd (c.in_default.not-Ok _ (c.put.ensures.answer ∙ cond-true _ _ _ (lt-ltb (length (take n part)) (length part) room)))

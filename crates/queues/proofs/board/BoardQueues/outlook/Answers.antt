@@ -14,5 +14,5 @@ returns c =
     let rest = c.args.rest in
     let inner : c.lesser.result ≡ least_onto q.early rest =
     c.lesser.ensures ∙ ap (λ (o : Option Message). lesser o rest) (c.least-early.ensures ∙ ap (least message_before) c.row.ensures) ∙ lesser_least q.early rest in
-    c.lesser-2.ensures ∙ ap (λ (o : Option Message). lesser o c.lesser.result) (c.least-open.ensures ∙ ap (least message_before) c.open-ones.ensures)
+    c.lesser-2.ensures ∙ ap (λ (o : Option Message). lesser o c.lesser.result) (c.least-open.ensures ∙ ap (least message_before) c.open_ones.ensures)
     ∙ lesser_least q.open_ones c.lesser.result ∙ ap (least_onto q.open_ones) inner ∙ sym (onto_append q.open_ones q.early rest)

@@ -11,11 +11,11 @@ use Rattle.queues.proofs.Parts.{removed_count}
 use Rattle.queues.proofs.Searches.{not_found}
 use Rattle.queues.proofs.board.BoardQueues.release.Goals as goal
 
-pub invariant-of-self : goal.invariant-of-self
-invariant-of-self c =
+pub invariant_of-self : goal.invariant_of-self
+invariant_of-self c =
     let q = c.args.self.now in
     let n = removed_count q.early q.early_count c.in-Some.at c.remove-self.result c.remove-self.ensures.answer in
-    ((omega arith, omega arith, omega arith, omega arith), (omega (arith, n, q.fits), (q.stands, (q.tallies, (q.twos, tt)))))
+    record { sized = (omega arith, omega arith, omega arith, omega arith); fits = omega (arith, n, q.fits); stands = q.stands; tallies = q.tallies; twos = q.twos }
 
 pub returns-in-Some : goal.returns-in-Some
 returns-in-Some c =
@@ -26,8 +26,8 @@ returns-in-Some c =
     ∙ take_in_front (without c.in-Some.at E) q.early c.remove-self.result (sym c.remove-self.ensures.answer)
     ∙ without_first message_before c.args.message.now E c.in-Some.at (sym c.in-Some.ensures))
 
-pub returns-in-default : goal.returns-in-default
-returns-in-default c =
+pub returns-in_default : goal.returns-in_default
+returns-in_default c =
     let q = c.args.self.now in
     let F : List Message → Queues = λ y. record { standing = (queues_of q).standing; open_ones = (queues_of q).open_ones; early = y; sent = q.sent } in
-    sym (ap F (not_found c.args.message.now (take q.early_count q.early) c.in-default.ensures))
+    sym (ap F (not_found c.args.message.now (take q.early_count q.early) c.in_default.ensures))

@@ -7,8 +7,8 @@ use Rattle.queues.proofs.Memories.{issued_is}
 use Rattle.queues.proofs.Sheds.{sum_first, sends_first, shed_is, small_shed, left_count, left_row}
 use Rattle.queues.proofs.board.BoardQueues.shed.Goals as goal
 
-pub invariant-of-self : goal.invariant-of-self
-invariant-of-self c =
+pub invariant_of-self : goal.invariant_of-self
+invariant_of-self c =
     let q = c.args.self.now in
     let lt : 0 < q.standing = omega arith in
     let n = c.shed-self.result in
@@ -18,19 +18,8 @@ invariant-of-self c =
     let es = left_count 1 q.standing s q.sends (omega (arith, q.fits, q.stands, q.sized.1)) c.shed-self-then-self-gt0.ensures.answer in
     let ek = left_count c.from.result q.sent_count k q.outputs (omega (arith, kept_within q, q.sized.2)) c.shed-self-then-self-gt0-2.ensures.answer in
     let row = left_row 1 q.standing s q.sends c.shed-self-then-self-gt0.new.memory c.shed-self-then-self-gt0.ensures.answer c.shed-self-then-self-gt0.ensures.after in
-    let tally : sum (take s c.shed-self-then-self-gt0.new.memory) ≡ k = ap sum (row ∙ ap (drop 1) (sends_first q lt)) ∙ omega (arith, sum_first q lt, ek, c.from.ensures) in (
-      (omega arith, omega arith, omega arith, omega arith),
-      (
-        omega (arith, ec, q.fits),
-        (
-          omega (arith, ec, es, q.stands),
-          (
-            tally,
-            (small_shed 1 q.standing q.sends c.shed-self-then-self-gt0.new.memory c.shed-self-then-self-gt0.ensures.after q.twos, tt),
-          ),
-        ),
-      ),
-    )
+    let tally : sum (take s c.shed-self-then-self-gt0.new.memory) ≡ k = ap sum (row ∙ ap (drop 1) (sends_first q lt)) ∙ omega (arith, sum_first q lt, ek, c.from.ensures) in
+    record { sized = (omega arith, omega arith, omega arith, omega arith); fits = omega (arith, ec, q.fits); stands = omega (arith, ec, es, q.stands); tallies = tally; twos = small_shed 1 q.standing q.sends c.shed-self-then-self-gt0.new.memory c.shed-self-then-self-gt0.ensures.after q.twos }
 
 pub returns-then-self-gt0 : goal.returns-then-self-gt0
 returns-then-self-gt0 c few =
@@ -47,8 +36,8 @@ returns-then-self-gt0 c few =
     let after : c.shed-self-then-self-gt0-2.new.memory ≡ in_front (drop g (take q.sent_count q.outputs)) q.outputs =
     c.shed-self-then-self-gt0-2.ensures.after ∙ ap (λ (x : ℕ). in_front (drop x (take q.sent_count q.outputs)) q.outputs) from in
     let ek = left_count g q.sent_count k q.outputs (omega (arith, kept_within q, q.sized.2)) answer in
-    let en : c.saturating-add-self.result ≡ q.sent + g = omega (arith, c.saturating-add-self.ensures, c.from-then-self-gt0.ensures, issued_is q, sum_first q lt, few) in
-    shed_is q lt c.shed-self.new.memory c.shed-self-then-self-gt0.new.memory c.shed-self-then-self-gt0-2.new.memory n s k c.saturating-add-self.result ec es ek en
+    let en : c.saturating_add-self.result ≡ q.sent + g = omega (arith, c.saturating_add-self.ensures, c.from-then-self-gt0.ensures, issued_is q, sum_first q lt, few) in
+    shed_is q lt c.shed-self.new.memory c.shed-self-then-self-gt0.new.memory c.shed-self-then-self-gt0-2.new.memory n s k c.saturating_add-self.result ec es ek en
     (left_row 1 q.count n q.messages c.shed-self.new.memory c.shed-self.ensures.answer c.shed-self.ensures.after)
     (left_row 1 q.standing s q.sends c.shed-self-then-self-gt0.new.memory c.shed-self-then-self-gt0.ensures.answer c.shed-self-then-self-gt0.ensures.after)
     (left_row g q.sent_count k q.outputs c.shed-self-then-self-gt0-2.new.memory answer after)

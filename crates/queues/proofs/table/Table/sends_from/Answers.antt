@@ -7,7 +7,7 @@ use Rattle.queues.proofs.table.Table.sends_from.Goals as goal
 pub returns-in-Some : goal.returns-in-Some
 returns-in-Some c =
     let e = c.in-Some.ensures.lookup in
-    asked_at (λ (q : Queues). sends_of (drop c.args.stay q.standing)) c.args.self.now.entries c.args.k c.in-Some.entry.now _ c.sends-from.ensures e.1 e.3.0
+    asked_at (λ (q : Queues). sends_of (drop c.args.stay q.standing)) c.args.self.now.entries c.args.k c.in-Some.entry.now _ c.sends_from.ensures e.1 e.3.0
 
 drop_none : (n : ℕ) → [] ≡ sends_of (drop n [])
 drop_none zero = refl

@@ -23,7 +23,7 @@ loop-i-preserved c =
     let l = length-take-le t.count t.items (omega arith) in
     let d = Plus no_message in
     let read = get_or_default t.items (i - 1) _ d (omega arith) ∙ sym (get_or-take t.count t.items (i - 1) d (omega arith)) in
-    c.nearer-item-best.ensures ∙ ap (nearer message_before _) c.loop-i.invariant
+    c.nearer_item-best.ensures ∙ ap (nearer message_before _) c.loop-i.invariant
     ∙ ap (λ (x : Item). nearer message_before (inside x) (least message_before (map inside (drop i (on_way t))))) read
     ∙ sym (ap (λ (xs : List Item). least message_before (map inside xs)) (back_one (on_way t) i d (omega arith) (omega arith)))
 

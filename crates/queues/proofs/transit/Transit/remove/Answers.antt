@@ -6,10 +6,10 @@ use Rattle.queues.specs.Transits.{on_way}
 use Rattle.queues.proofs.Parts.{removed_count}
 use Rattle.queues.proofs.transit.Transit.remove.Goals as goal
 
-pub invariant-of-self : goal.invariant-of-self
-invariant-of-self c =
+pub invariant_of-self : goal.invariant_of-self
+invariant_of-self c =
     let t = c.args.self.now in
-    (omega (arith, removed_count t.items t.count c.args.index c.remove-self.result c.remove-self.ensures.answer, t.fits), (omega arith, tt))
+    record { fits = omega (arith, removed_count t.items t.count c.args.index c.remove-self.result c.remove-self.ensures.answer, t.fits); sized = omega arith }
 
 pub returns : goal.returns
 returns c =
