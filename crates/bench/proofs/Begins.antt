@@ -4,6 +4,7 @@ use Rattle.std.proofs.lemmas.List.{append_assoc, length-append, length-map, leng
 use Rattle.bus.specs.declared.Words.{Words}
 use Rattle.bus.specs.Reactions.{Rule, zeros}
 use Rattle.savers.specs.Rows.{Row}
+use Rattle.racks.specs.declared.rack.Rack.{Ghosts}
 use Rattle.addressing.specs.Settings.{Setting, boards_of}
 use Rattle.model.specs.Law.{SetUp}
 use Rattle.bench.specs.declared.setup.Setup.{Setup}
@@ -36,7 +37,7 @@ set_up_begun c starts rows level wide = (
   λ k kb. get_or_append_left (map alone starts) (drop (length starts) rows) [] k (omega (arith, length-map starts alone)) ∙ get_or-map alone starts k zeros [] (omega arith),
 )
 
-pub set_up_of : {R : Type 0} (rules : List Rule) (rows : R → List Row) (u : Setup R) → length (rows u.rack) ≡ length rules →
+pub set_up_of : {R : Type 0} {rack : Ghosts R} (rules : List Rule) (rows : R → List Row) (u : Setup R rack) → length (rows u.rack) ≡ length rules →
     (let s = start_of rules rows u in SetUp s.setting s.words (first_rows s))
 set_up_of rules rows u level =
     let s = start_of rules rows u in

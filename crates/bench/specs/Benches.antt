@@ -2,6 +2,7 @@
 use Rattle.std.specs.Prelude.{ℕ, List, Ok, Err, Result}
 use Rattle.bus.specs.Reactions.{Rule}
 use Rattle.savers.specs.Rows.{Row}
+use Rattle.racks.specs.declared.rack.Rack.{Ghosts}
 use Rattle.addressing.specs.Settings.{Setting}
 use Rattle.model.specs.declared.refusal.Refusal.{Refusal}
 use Rattle.model.specs.State.{State, Answer, refused, offered, delivered, ran}
@@ -15,7 +16,7 @@ pub record Bench : Type 0 where
   pub state : State
 
 -- the state of a bench, with the rows of its rack
-abbrev pub state_of : {R : Type 0} → (R → List Row) → Running R → State
+abbrev pub state_of : {R : Type 0} {rack : Ghosts R} → (R → List Row) → Running R rack → State
 state_of rows b = record {
   rows = rows b.rack;
   boards = boards_in b.table;
@@ -25,7 +26,7 @@ state_of rows b = record {
 }
 
 -- a bench over a rack with these rules and rows
-abbrev pub bench_of : {R : Type 0} → List Rule → (R → List Row) → Running R → Bench
+abbrev pub bench_of : {R : Type 0} {rack : Ghosts R} → List Rule → (R → List Row) → Running R rack → Bench
 bench_of rules rows b = record { setting = record { rules = rules; end = b.end }; state = state_of rows b }
 
 -- what a call returns, as its answer

@@ -3,6 +3,7 @@ use Rattle.std.specs.Prelude.{ℕ, min, cond, List, [], ◌∷◌, ◌++◌, map
 use Rattle.bus.specs.declared.Words.{Words}
 use Rattle.bus.specs.Reactions.{Rule}
 use Rattle.savers.specs.Rows.{Row}
+use Rattle.racks.specs.declared.rack.Rack.{Ghosts}
 use Rattle.addressing.specs.Settings.{Setting}
 use Rattle.model.specs.declared.refusal.Refusal.{Refusal}
 use Rattle.model.specs.declared.refusal.Refusal.TheVariants.{NoBoard}
@@ -15,7 +16,7 @@ pub record Start : Type 0 where
   pub rows : List Row
 
 -- a set-up over a rack with these rules and rows
-abbrev pub start_of : {R : Type 0} → List Rule → (R → List Row) → Setup R → Start
+abbrev pub start_of : {R : Type 0} {rack : Ghosts R} → List Rule → (R → List Row) → Setup R rack → Start
 start_of rules rows u = record {
   setting = record { rules = rules; end = u.end };
   words = take (min (length rules) 8) u.starts;

@@ -18,16 +18,16 @@ use Rattle.bench.proofs.Drives.{Played, played_within, played_none, told_within,
 use Rattle.bench.proofs.driving.drive.Given as given
 use Rattle.bench.proofs.driving.drive.Goals as goal
 
-pub slice-bounds-perform-count : goal.slice-bounds-perform-count
-slice-bounds-perform-count g c = played_within _ _ _ _ _ _ _ _ _ c.loop-i.invariant.0
+pub slice_bounds-perform-count : goal.slice_bounds-perform-count
+slice_bounds-perform-count g c = played_within _ _ _ _ _ _ _ _ _ c.loop-i.invariant.0
 
-pub offset-bounds-log-lines : goal.offset-bounds-log-lines
-offset-bounds-log-lines g c =
+pub offset_bounds-log-lines : goal.offset_bounds-log-lines
+offset_bounds-log-lines g c =
     let h : c.loop-i.lines ≤ length c.loop-i.log = played_within _ _ _ _ _ _ _ _ _ c.loop-i.invariant.0 in
     search rules
 
-pub slice-bounds-perform-start : goal.slice-bounds-perform-start
-slice-bounds-perform-start g c =
+pub slice_bounds-perform-start : goal.slice_bounds-perform-start
+slice_bounds-perform-start g c =
     let h : c.loop-i.lines ≤ length c.loop-i.log = played_within _ _ _ _ _ _ _ _ _ c.loop-i.invariant.0 in
     search rules
 
@@ -48,17 +48,17 @@ turn g c =
     let begun = bench_of rules rows c.start-bench.result in
     let now = bench_of rules rows c.loop-i.bench in
     let set_up = set_up_of rules rows setup (g.met.R.Rack.level setup.rack) in
-    let starts = c.start-bench.ensures.savers-begin-with-the-start-words in
+    let starts = c.start-bench.ensures.savers_begin_with_the_start_words in
     let eu : begun.setting ≡ u.setting = ap (λ (b : Bench). b.setting) starts in
     let es : begun.state ≡ started (first_rows u) = ap (λ (b : Bench). b.state) starts in
     let el : now.setting ≡ begun.setting = c.loop-i.invariant.1 in
     let few : length (take i calls) ≤ length log₀ = omega (arith, length-take i calls, c.loop-i-test.true, c.min-many.ensures) in
     let reached = reached_so u.setting u.words (first_rows u) set_up begun.setting eu begun.state es c.args.outcomes.now log₀ (take i calls) now.state c.loop-i.outcomes c.loop-i.log c.loop-i.lines c.loop-i.invariant.0 now.setting el in
     turn_told u.setting u.words (first_rows u) set_up begun.setting eu begun.state es c.args.outcomes.now log₀ (take i calls) now.state c.loop-i.outcomes c.loop-i.log c.loop-i.lines c.loop-i.invariant.0 now.setting el
-    (get_or calls i (Offer 0 0 0 0)) ((bench_of rules rows c.perform-outcome.new.self).state, c.perform-outcome.result, c.perform-outcome.new.log) c.loop-i.auto.log few (c.perform-outcome.ensures.does-what-the-rule-says reached)
+    (get_or calls i (Offer 0 0 0 0)) ((bench_of rules rows c.perform-outcome.new.self).state, c.perform-outcome.result, c.perform-outcome.new.log) c.loop-i.auto.log few (c.perform-outcome.ensures.does_what_the_rule_says reached)
 
-pub overflow-add-lines : goal.overflow-add-lines
-overflow-add-lines g c =
+pub overflow_add-lines : goal.overflow_add-lines
+overflow_add-lines g c =
     let rules = g.R.Rack.rules in
     let rows = g.R.Rack.rows in
     let n = c.loop-i.lines in
@@ -71,7 +71,7 @@ overflow-add-lines g c =
     (bench_of rules rows c.loop-i.bench).state c.loop-i.outcomes log n c.loop-i.invariant.0 (get_or c.args.calls.now c.loop-i.i (Offer 0 0 0 0))
     (bench_of rules rows c.perform-outcome.new.self).state c.perform-outcome.result part (turn g c) same in
     let k : n + c.lines-lines.result ≤ length log = omega (arith, h, c.lines-lines.ensures) in
-    search rules
+    record { fits = omega (arith, k) }
 
 pub loop-i-preserved : goal.loop-i-preserved
 loop-i-preserved g c =
@@ -101,7 +101,7 @@ loop-i-preserved g c =
     subst (λ (k : ℕ). F (take (i + 1) calls) (set c.loop-i.outcomes k o) (take n log ++ part) (n + lines_in o)) long a in
     let d : F (take (i + 1) calls) (set c.loop-i.outcomes i o) (take n log ++ part) (n + c.lines-lines.result) =
     subst (λ (k : ℕ). F (take (i + 1) calls) (set c.loop-i.outcomes i o) (take n log ++ part) (n + k)) (sym c.lines-lines.ensures) b in
-    (subst (λ (ls : List Message). F (take (i + 1) calls) (set c.loop-i.outcomes i o) ls (n + c.lines-lines.result)) log_is d, c.perform-outcome.ensures.keeps-the-setting ∙ c.loop-i.invariant.1)
+    (subst (λ (ls : List Message). F (take (i + 1) calls) (set c.loop-i.outcomes i o) ls (n + c.lines-lines.result)) log_is d, c.perform-outcome.ensures.keeps_the_setting ∙ c.loop-i.invariant.1)
 
 pub loop-i-init : goal.loop-i-init
 loop-i-init g c = (played_none _ _ _ _, refl)
@@ -117,7 +117,7 @@ returns g c =
     let log₀ = c.args.log.now in
     let begun = bench_of rules rows c.start-bench.result in
     let set_up = set_up_of rules rows setup (g.met.R.Rack.level setup.rack) in
-    let starts = c.start-bench.ensures.savers-begin-with-the-start-words in
+    let starts = c.start-bench.ensures.savers_begin_with_the_start_words in
     let eu : begun.setting ≡ u.setting = ap (λ (b : Bench). b.setting) starts in
     let es : begun.state ≡ started (first_rows u) = ap (λ (b : Bench). b.state) starts in
     let s = (bench_of rules rows c.loop-i.bench).state in
@@ -127,7 +127,7 @@ returns g c =
     let p = played_so u.setting u.words (first_rows u) set_up begun.setting eu begun.state es outs₀ log₀ (take c.loop-i.i calls) s c.loop-i.outcomes c.loop-i.log c.loop-i.lines c.loop-i.invariant.0 in
     let q = subst (λ (xs : List Call). Played u.setting (started (first_rows u)) outs₀ log₀ xs s c.loop-i.outcomes c.loop-i.log c.loop-i.lines) xs-are p in
     record {
-      outcomes-and-lines-are-the-models-and-lawful = record {
+      outcomes_and_lines_are_the_models_and_lawful = record {
         setting_is_the_given_one = c.loop-i.invariant.1 ∙ eu;
         state_is_the_models = q.state_is;
         outcomes_are_the_models = q.outs_are;

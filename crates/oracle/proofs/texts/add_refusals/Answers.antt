@@ -8,13 +8,13 @@ use Rattle.oracle.proofs.texts.add_refusals.Goals.{in-Some+in-ok-writeln, in-def
 
 pub loop-index-preserved : goal.loop-index-preserved
 loop-index-preserved c =
-    elim c.match-refusal-of.branch [
+    elim c.match-refusal_of.branch [
       | in-Some+in-ok-writeln w ↦
           let line : string_bytes w.writeln.new.self ≡ string_bytes c.loop-index.text ++ refusal_line c.loop-index.index-counter (Some w.in-Some.refusal) = search (rules, append_assoc) in
           refusals_more _ _ _ _ c.args.calls.now c.loop-index.index-counter _ _ c.loop-index-test.true c.loop-index.invariant w.in-Some.ensures
           (ap string_bytes w.text-is ∙ line)
       | in-default w ↦
-          refusals_more _ _ _ _ c.args.calls.now c.loop-index.index-counter _ _ c.loop-index-test.true c.loop-index.invariant w.in-default.ensures
+          refusals_more _ _ _ _ c.args.calls.now c.loop-index.index-counter _ _ c.loop-index-test.true c.loop-index.invariant w.in_default.ensures
           (ap string_bytes w.text-is ∙ sym (append-nil _))
     ]
 

@@ -9,8 +9,8 @@ use Rattle.playing.proofs.asking.bench_calls.Goals as goal
 pub loop-call-preserved : goal.loop-call-preserved
 loop-call-preserved c =
     let lt : c.loop-call.call-index < length c.args.calls.now = search rules in
-    let pushed = chosen _ _ _ _ c.push.ensures.items (ap is_ok c.in-ok-push.was) in
-    mapped_more asked _ _ _ c.args.calls.now c.loop-call.call-index _ lt c.loop-call.invariant pushed c.bench-call.ensures
+    let pushed = chosen _ _ _ _ c.push.ensures.items (ap is_ok c.in_ok-push.was) in
+    mapped_more asked _ _ _ c.args.calls.now c.loop-call.call-index _ lt c.loop-call.invariant pushed c.bench_call.ensures
 
 pub returns : goal.returns
 returns c = search (rules, take_all)

@@ -5,9 +5,9 @@ use Rattle.playing.proofs.running.run_calls.Goals as goal
 
 pub returns : goal.returns
 returns c =
-    let wrote = c.drive-new-bench-written in
-    let outcomes : length wrote.new.outcomes ≡ c.in-ok-outcomes.outcomes.len = search rules in
-    let lines : length wrote.new.log ≡ c.in-ok-log.log.len = search rules in
+    let wrote = c.drive_new_bench-written in
+    let outcomes : length wrote.new.outcomes ≡ c.in_ok-outcomes.outcomes.len = search rules in
+    let lines : length wrote.new.log ≡ c.in_ok-log.log.len = search rules in
     record {
       outcomes_are_the_models = take_at _ _ _ outcomes ∙ wrote.ensures.outcomes_are_the_models;
       log_is_the_committed_lines = c.truncate.ensures.items ∙ ap (take wrote.result.lines) (take_at _ _ _ lines) ∙ wrote.ensures.log_is_the_committed_lines;

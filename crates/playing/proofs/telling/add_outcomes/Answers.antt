@@ -9,7 +9,7 @@ loop-index-preserved c =
     let count : c.min.result ≡ min c.lines.result (length c.loop-index.rest.now) = search rules in
     outcome_more _ _ _ c.args.outcomes.now c.loop-index.index _ c.loop-index.rest.now _ _ c.min.result lt c.loop-index.invariant
     (count ∙ ap (λ n. min n (length c.loop-index.rest.now)) c.lines.ensures)
-    c.split-at.ensures.front c.split-at.ensures.back c.in-ok-add-outcome.ensures
+    c.split_at.ensures.front c.split_at.ensures.back c.in_ok-add_outcome.ensures
 
 pub returns : goal.returns
 returns c = outcomes_all _ _ c.args.outcomes.now c.loop-index.index c.loop-index.rest.now c.loop-index-test.false c.loop-index.invariant

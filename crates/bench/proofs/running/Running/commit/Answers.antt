@@ -19,8 +19,8 @@ loop-i-preserved g c =
     let rows = g.R.Rack.rows in (
       written_more c.outlook-outlook.result (bench_of rules rows c.args.self.now).state c.args.log.now
           c.loop-i.i (bench_of rules rows c.loop-i.self).state c.loop-i.log (omega arith) c.loop-i.invariant.0
-          c.in-Some.line (bench_of rules rows c.commit-one.new.self).state c.loop-i-test.true c.in-Some.ensures.answers-the-next-line c.in-Some.ensures.takes-the-next-line,
-      c.in-Some.ensures.keeps-the-setting ∙ c.loop-i.invariant.1,
+          c.in-Some.line (bench_of rules rows c.commit_one.new.self).state c.loop-i-test.true c.in-Some.ensures.answers_the_next_line c.in-Some.ensures.takes_the_next_line,
+      c.in-Some.ensures.keeps_the_setting ∙ c.loop-i.invariant.1,
     )
 
 -- a state and its lines, by the outlook that the call found
@@ -35,20 +35,20 @@ returns-in-None g c =
     let rows = g.R.Rack.rows in
     let before = bench_of rules rows c.args.self.now in
     let s = before.state in
-    let s' = (bench_of rules rows c.commit-one.new.self).state in
+    let s' = (bench_of rules rows c.commit_one.new.self).state in
     let log₀ = c.args.log.now in
     let log = c.loop-i.log in
     let o = c.outlook-outlook.result in
     let i = c.loop-i.i in
     let w = written_stop o s log₀ i (bench_of rules rows c.loop-i.self).state log (omega arith) c.loop-i.invariant.0
-    s' (omega arith) c.in-None.ensures.answers-the-next-line c.in-None.ensures.takes-the-next-line in
+    s' (omega arith) c.in-None.ensures.answers_the_next_line c.in-None.ensures.takes_the_next_line in
     record {
-      keeps-the-setting = c.in-None.ensures.keeps-the-setting ∙ c.loop-i.invariant.1;
-      does-what-the-rule-says = λ reached.
+      keeps_the_setting = c.in-None.ensures.keeps_the_setting ∙ c.loop-i.invariant.1;
+      does_what_the_rule_says = λ reached.
           commit_is s s' i log log₀ (called s s' (length log₀) o (take i log) c.outlook-outlook.ensures w.0 w.1 ∙ turns_are before.setting s reached (length log₀))
           (omega arith) c.loop-i.invariant.0.rest;
-      writes-within-the-log = omega arith;
-      leaves-the-rest-of-the-log = c.loop-i.invariant.0.rest;
+      writes_within_the_log = omega arith;
+      leaves_the_rest_of_the_log = c.loop-i.invariant.0.rest;
     }
 
 pub returns : goal.returns
@@ -67,9 +67,9 @@ returns g c =
     let lines : take n log ≡ lines_after o (length log₀) s = ap (λ (k : ℕ). take k log) (sym end) ∙ w.1 in
     let rest : drop n log ≡ drop n log₀ = ap (λ (k : ℕ). drop k log) (sym end) ∙ c.loop-i.invariant.0.rest ∙ ap (λ (k : ℕ). drop k log₀) end in
     record {
-      keeps-the-setting = c.loop-i.invariant.1;
-      does-what-the-rule-says = λ reached.
+      keeps_the_setting = c.loop-i.invariant.1;
+      does_what_the_rule_says = λ reached.
           commit_is s s' n log log₀ (called s s' (length log₀) o (take n log) c.outlook-outlook.ensures w.0 lines ∙ turns_are before.setting s reached (length log₀)) (omega arith) rest;
-      writes-within-the-log = omega arith;
-      leaves-the-rest-of-the-log = rest;
+      writes_within_the_log = omega arith;
+      leaves_the_rest_of_the_log = rest;
     }

@@ -14,8 +14,8 @@ use Rattle.bench.specs.Logs.{message_of}
 use Rattle.bench.proofs.Standing.{front_there, entry_standing, entry_issued, shed_one_less, shed_issued}
 use Rattle.bench.proofs.running.Running.commit_one.Goals as goal
 
-pub offset-bounds-self-place : goal.offset-bounds-self-place
-offset-bounds-self-place g c = let b = c.args.self.now in omega (arith, (front_there b.table c.in-Some.front c.in-Some.ensures).0, b.eight)
+pub offset_bounds-self-place : goal.offset_bounds-self-place
+offset_bounds-self-place g c = let b = c.args.self.now in omega (arith, (front_there b.table c.in-Some.front c.in-Some.ensures).0, b.eight)
 
 pub listed : goal.listed
 listed g c = let b = c.args.self.now in omega (arith, (front_there b.table c.in-Some.front c.in-Some.ensures).0, b.eight)
@@ -23,11 +23,11 @@ listed g c = let b = c.args.self.now in omega (arith, (front_there b.table c.in-
 pub bounds-self-place : goal.bounds-self-place
 bounds-self-place g c = let b = c.args.self.now in omega (arith, (front_there b.table c.in-Some.front c.in-Some.ensures).0, b.eight)
 
-pub overflow-cast-place : goal.overflow-cast-place
-overflow-cast-place g c = let b = c.args.self.now in omega (arith, (front_there b.table c.in-Some.front c.in-Some.ensures).0, b.eight)
+pub overflow_cast-place : goal.overflow_cast-place
+overflow_cast-place g c = let b = c.args.self.now in omega (arith, (front_there b.table c.in-Some.front c.in-Some.ensures).0, b.eight)
 
-pub invariant-of-self : goal.invariant-of-self
-invariant-of-self g c =
+pub invariant_of-self : goal.invariant_of-self
+invariant_of-self g c =
     let b = c.args.self.now in
     let bs = b.table.entries in
     let f = c.in-Some.front in
@@ -40,7 +40,7 @@ invariant-of-self g c =
     let more : issued (queues_of last) ≤ 2 * b.runs = omega (arith, ap issued e, shed_issued old, b.numbered p) in
     let counted : b.undone + (b.committed + 1) + all_standing (map queues_of (set bs p last)) ≡ b.runs =
     omega (arith, entry_standing bs p last there.0, b.counted, ap (λ (x : Queues). length x.standing) e, shed_one_less old f.message there.1) in
-    (length-set bs p last ∙ b.eight, (b.bounded, (counted, (entry_issued bs p last (2 * b.runs) b.numbered more, tt))))
+    record { eight = length-set bs p last ∙ b.eight; bounded = b.bounded; counted = counted; numbered = entry_issued bs p last (2 * b.runs) b.numbered more }
 
 pub returns : goal.returns
 returns g c =
@@ -54,7 +54,7 @@ returns g c =
     let there = front_there b.table f c.in-Some.ensures in
     let at = board_at bs p c.index-self-place.result there.0 in
     let e : queues_of last ≡ shed 1 (board_in b.table p) = c.shed.ensures (omega (arith, ap issued at, b.numbered p, b.bounded)) ∙ ap (shed 1) (sym at) in
-    let next : next_line o S ≡ Some f = ap (final_front o) (sym c.in-Some.ensures) ∙ cond-true _ _ _ (sym c.if-not-is-final.ensures) in
+    let next : next_line o S ≡ Some f = ap (final_front o) (sym c.in-Some.ensures) ∙ cond-true _ _ _ (sym c.if-not-is_final.ensures) in
     let F : List Row → List Queues → State = λ x y. record {
       rows = x;
       boards = y;
@@ -63,9 +63,9 @@ returns g c =
       last = Some f.message;
     } in
     record {
-      keeps-the-setting = refl;
-      answers-the-next-line = sym (ap message_of next);
-      takes-the-next-line = ap (λ x. F x (map queues_of (set bs p last))) c.forget.ensures.left
+      keeps_the_setting = refl;
+      answers_the_next_line = sym (ap message_of next);
+      takes_the_next_line = ap (λ x. F x (map queues_of (set bs p last))) c.forget.ensures.left
           ∙ ap (F _) (map-set queues_of bs p last ∙ ap (set (map queues_of bs) p) e)
           ∙ sym (ap (after_line S) next);
     }

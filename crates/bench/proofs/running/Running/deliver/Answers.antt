@@ -16,24 +16,24 @@ use Rattle.bench.proofs.Standing.{entry_standing, entry_issued}
 use Rattle.bench.proofs.Deliveries.{delivered_is, arrived_is, stay_stand, issued_no_more, recalled_small, undone_within}
 use Rattle.bench.proofs.running.Running.deliver.Goals as goal
 
-pub overflow-add-len : goal.overflow-add-len
-overflow-add-len g c =
+pub overflow_add-len : goal.overflow_add-len
+overflow_add-len g c =
     let b = c.args.self.now in
     let p = c.from-place.result in
     omega (arith, ap (λ (x : Plan). x.recalled) c.plan-plan.ensures, recalled_small c.in-Some.item (board_in b.table p), b.numbered p, b.bounded, c.len.ensures, b.transit.fits, length-take b.transit.count b.transit.items)
 
-pub overflow-cast-self : goal.overflow-cast-self
-overflow-cast-self g c =
+pub overflow_cast-self : goal.overflow_cast-self
+overflow_cast-self g c =
     let b = c.args.self.now in
     omega (arith, undone_within b.table c.from-place.result c.in-Some.item c.plan-plan.result c.plan-plan.ensures, b.counted, b.bounded)
 
-pub overflow-add-self : goal.overflow-add-self
-overflow-add-self g c =
+pub overflow_add-self : goal.overflow_add-self
+overflow_add-self g c =
     let b = c.args.self.now in
     omega (arith, undone_within b.table c.from-place.result c.in-Some.item c.plan-plan.result c.plan-plan.ensures, b.counted, b.bounded)
 
-pub invariant-of-self-then-place-lt-MOST-BOARDS : goal.invariant-of-self-then-place-lt-MOST-BOARDS
-invariant-of-self-then-place-lt-MOST-BOARDS g c =
+pub invariant_of-self-then-place-lt-MOST_BOARDS : goal.invariant_of-self-then-place-lt-MOST_BOARDS
+invariant_of-self-then-place-lt-MOST_BOARDS g c =
     let b = c.args.self.now in
     let bs = b.table.entries in
     let p = c.from-place.result in
@@ -46,18 +46,18 @@ invariant-of-self-then-place-lt-MOST-BOARDS g c =
     let more : issued (queues_of last) ≤ 2 * b.runs = omega (arith, ap issued e, issued_no_more item q, b.numbered p) in
     let counted : b.undone + c.plan-plan.result.undone + b.committed + all_standing (map queues_of (set bs p last)) ≡ b.runs =
     omega (arith, entry_standing bs p last (omega arith), b.counted, ap (λ (x : Queues). length x.standing) e, stay_stand item q, stay_within item q, ap (λ (x : Plan). x.undone) c.plan-plan.ensures) in
-    (length-set bs p last ∙ b.eight, (b.bounded, (counted, (entry_issued bs p last (2 * b.runs) b.numbered more, tt))))
+    record { eight = length-set bs p last ∙ b.eight; bounded = b.bounded; counted = counted; numbered = entry_issued bs p last (2 * b.runs) b.numbered more }
 
-pub invariant-of-self-else-place-lt-MOST-BOARDS : goal.invariant-of-self-else-place-lt-MOST-BOARDS
-invariant-of-self-else-place-lt-MOST-BOARDS g c =
+pub invariant_of-self-else-place-lt-MOST_BOARDS : goal.invariant_of-self-else-place-lt-MOST_BOARDS
+invariant_of-self-else-place-lt-MOST_BOARDS g c =
     let b = c.args.self.now in
     let p = c.from-place.result in
     let none : board_in b.table p ≡ no_queues = get_or_past (boards_in b.table) p no_queues (omega (arith, b.eight, length-map b.table.entries queues_of)) in
     let zero : c.plan-plan.result.undone ≡ 0 = omega (arith, ap (λ (x : Plan). x.undone) c.plan-plan.ensures, ap (λ (x : Queues). length x.standing) none) in
-    (b.eight, (b.bounded, (omega (arith, b.counted, zero), (b.numbered, tt))))
+    record { eight = b.eight; bounded = b.bounded; counted = omega (arith, b.counted, zero); numbered = b.numbered }
 
-pub returns-then-place-lt-MOST-BOARDS : goal.returns-then-place-lt-MOST-BOARDS
-returns-then-place-lt-MOST-BOARDS g c =
+pub returns-then-place-lt-MOST_BOARDS : goal.returns-then-place-lt-MOST_BOARDS
+returns-then-place-lt-MOST_BOARDS g c =
     let b = c.args.self.now in
     let bs = b.table.entries in
     let p = c.from-place.result in
@@ -67,15 +67,15 @@ returns-then-place-lt-MOST-BOARDS g c =
     let eb : map queues_of (set bs p last) ≡ set (map queues_of bs) p (arrived item (board_in b.table p)) =
     map-set queues_of bs p last ∙ ap (set (map queues_of bs) p) (c.arrive.ensures ∙ ap (arrived item) (sym at)) in
     record {
-      keeps-the-setting = refl;
-      does-what-the-rule-says = delivered_is (state_of g.R.Rack.rows b) c.args.index item c.message-board.result p c.plan-plan.result (messages_of c.sends-from-recalled.result.now)
+      keeps_the_setting = refl;
+      does_what_the_rule_says = delivered_is (state_of g.R.Rack.rows b) c.args.index item c.message-board.result p c.plan-plan.result (messages_of c.sends_from-recalled.result.now)
           (g.R.Rack.rows c.back.new.self) (map queues_of (set bs p last)) (on_way c.remove.new.self) (on_way c.recall.new.self)
           c.in-Some.ensures c.message-board.ensures c.from-place.ensures c.plan-plan.ensures c.if-plan.false (omega (arith, c.len.ensures))
-          c.back.ensures.left c.sends-from-recalled.ensures c.remove.ensures c.recall.ensures eb;
+          c.back.ensures.left c.sends_from-recalled.ensures c.remove.ensures c.recall.ensures eb;
     }
 
-pub returns-else-place-lt-MOST-BOARDS : goal.returns-else-place-lt-MOST-BOARDS
-returns-else-place-lt-MOST-BOARDS g c =
+pub returns-else-place-lt-MOST_BOARDS : goal.returns-else-place-lt-MOST_BOARDS
+returns-else-place-lt-MOST_BOARDS g c =
     let b = c.args.self.now in
     let bs = b.table.entries in
     let p = c.from-place.result in
@@ -83,9 +83,9 @@ returns-else-place-lt-MOST-BOARDS g c =
     let eb : map queues_of bs ≡ set (map queues_of bs) p (arrived item (board_in b.table p)) =
     sym (set_past (map queues_of bs) p (arrived item (board_in b.table p)) (omega (arith, b.eight, length-map bs queues_of))) in
     record {
-      keeps-the-setting = refl;
-      does-what-the-rule-says = delivered_is (state_of g.R.Rack.rows b) c.args.index item c.message-board.result p c.plan-plan.result (messages_of c.sends-from-recalled.result.now)
+      keeps_the_setting = refl;
+      does_what_the_rule_says = delivered_is (state_of g.R.Rack.rows b) c.args.index item c.message-board.result p c.plan-plan.result (messages_of c.sends_from-recalled.result.now)
           (g.R.Rack.rows c.back.new.self) (map queues_of bs) (on_way c.remove.new.self) (on_way c.recall.new.self)
           c.in-Some.ensures c.message-board.ensures c.from-place.ensures c.plan-plan.ensures c.if-plan.false (omega (arith, c.len.ensures))
-          c.back.ensures.left c.sends-from-recalled.ensures c.remove.ensures c.recall.ensures eb;
+          c.back.ensures.left c.sends_from-recalled.ensures c.remove.ensures c.recall.ensures eb;
     }

@@ -17,10 +17,10 @@ returns-in-Commit g c =
     let m = c.min-fitting.result in
     let ml : m ≤ length log = omega (arith, c.min-fitting.ensures) in
     record {
-      does-what-the-rule-says = λ reached.
+      does_what_the_rule_says = λ reached.
           commit_in_part s (bench_of rules rows c.commit.new.self).state c.commit.result m log c.commit.new.log ml
-          (omega (arith, c.commit.ensures.writes-within-the-log, length-take-le m log ml)) (c.commit.ensures.does-what-the-rule-says reached)
+          (omega (arith, c.commit.ensures.writes_within_the_log, length-take-le m log ml)) (c.commit.ensures.does_what_the_rule_says reached)
           ∙ ap (λ (k : ℕ). put_into log (commit s k)) c.min-fitting.ensures
           ∙ ap (perform_into log before.setting s) (sym c.in-Commit.is);
-      keeps-the-setting = c.commit.ensures.keeps-the-setting;
+      keeps_the_setting = c.commit.ensures.keeps_the_setting;
     }

@@ -23,8 +23,8 @@ two_at_most Empty = omega arith
 two_at_most (Single m) = omega arith
 two_at_most (Double m n) = omega arith
 
-pub invariant-of-self-2 : goal.invariant-of-self-2
-invariant-of-self-2 g c =
+pub invariant_of-self-2 : goal.invariant_of-self-2
+invariant_of-self-2 g c =
     let b = c.args.self.now in
     let bs = b.table.entries in
     let k = c.from-place.result in
@@ -38,19 +38,19 @@ invariant-of-self-2 g c =
     let numbered = entry_issued bs k last (2 * (b.runs + 1)) (λ i. omega (arith, b.numbered i)) more in
     let one : length (queues_of last).standing ≡ length old.standing + 1 =
     ap (λ (q : Queues). length q.standing) e ∙ stood_one out old old.open_ones c.in-Some.message (sym c.in-Some.ensures) in
-    (length-set bs k last ∙ b.eight, (omega arith, (omega (arith, entry_standing bs k last (omega arith), b.counted, one), (numbered, tt))))
+    record { eight = length-set bs k last ∙ b.eight; bounded = omega arith; counted = omega (arith, entry_standing bs k last (omega arith), b.counted, one); numbered = numbered }
 
-pub returns-in-default-take : goal.returns-in-default-take
-returns-in-default-take g c =
+pub returns-in_default-take : goal.returns-in_default-take
+returns-in_default-take g c =
     let b = c.args.self.now in
     let B = bench_of g.R.Rack.rules g.R.Rack.rows b in
     let k = c.args.board in
     let m = c.in-Some.message in
     let em : first_message (board_in b.table k).open_ones ≡ Some m = ap (λ (i : ℕ). first_message (board_in b.table i).open_ones) (sym c.from-place.ensures) ∙ sym c.in-Some.ensures in
     record {
-      does-what-the-rule-says = λ reached.
-          absurd (never_refused B.setting B.state k m c.in-default-take.field-0 reached (g.met.R.Rack.level b.rack) (omega (arith, c.boards-boards.ensures)) (rooms_within b.table.entries k) em c.in-default-take.ensures.answer);
-      keeps-the-setting = refl;
+      does_what_the_rule_says = λ reached.
+          absurd (never_refused B.setting B.state k m c.in_default-take.field-0 reached (g.met.R.Rack.level b.rack) (omega (arith, c.boards-boards.ensures)) (rooms_within b.table.entries k) em c.in_default-take.ensures.answer);
+      keeps_the_setting = refl;
     }
 
 pub returns : goal.returns
@@ -76,7 +76,7 @@ returns g c =
     let en : c.issued-number.result ≡ issued (board_in b.table k) = c.issued-number.ensures ∙ ap (λ (i : ℕ). issued (board_in b.table i)) ek in
     let small : c.issued-number.result + 1 < 2 ^ 32 = omega (arith, c.issued-number.ensures, b.numbered p, b.bounded) in
     let eout : out ≡ addressed C k m.time (issued (board_in b.table k)) (listed sends) =
-    c.messages-out.ensures small
+    c.messages-out.ensures.numbered_from small
     ∙ ap (λ (n : ℕ). addressed_in n b.end k m.time c.issued-number.result (listed sends)) c.boards-boards.ensures
     ∙ ap (λ (n : ℕ). addressed C k m.time n (listed sends)) en in
     let few : length S.transit ≤ 126 = omega (arith, c.len.ensures) in
@@ -93,9 +93,9 @@ returns g c =
       ran c.len-2.result,
     ) in
     record {
-      does-what-the-rule-says = λ reached. ap F eb
+      does_what_the_rule_says = λ reached. ap F eb
           ∙ run_is C S k m sends out (rest_of (os k)) (g.R.Rack.rows c.take.new.self) (queues_of last) (on_way c.send.new.self) c.len-2.result
           (first_some (os k) m em) (omega (arith, c.boards-boards.ensures)) (omega arith) few
           c.in-Ok.ensures.answer c.in-Ok.ensures.left eout eq et c.len-2.ensures;
-      keeps-the-setting = refl;
+      keeps_the_setting = refl;
     }

@@ -10,6 +10,6 @@ pub returns : goal.returns
 returns g c =
     let F : List Words → Start = λ ws. record { setting = record { rules = g.R.Rack.rules; end = c.args.end }; words = ws; rows = g.R.Rack.rows c.args.rack } in
     record {
-      every-board-starts-with-zeros = ap F (take-replicate (min (length g.R.Rack.rules) 8) 8 zeros (omega arith));
-      rack-is-the-given-one = refl;
+      every_board_starts_with_zeros = ap F (take-replicate (min (length g.R.Rack.rules) 8) 8 zeros (omega arith));
+      rack_is_the_given_one = refl;
     }

@@ -34,7 +34,7 @@ returns g c =
     ∙ ap F (begun_all u.starts (rows u.rack) (rows c.loop-board.rack) k (omega (arith, u.eight, c.boards-board-end.ensures)) c.loop-board.invariant
     ∙ ap (λ (n : ℕ). begun (take n u.starts) (rows u.rack)) (at ∙ c.boards-board-end.ensures)) in
     record {
-      savers-begin-with-the-start-words = starts;
-      bench-is-reached = subst (λ (b : Bench). Reached b.setting b.state) (sym starts)
+      savers_begin_with_the_start_words = starts;
+      bench_is_reached = subst (λ (b : Bench). Reached b.setting b.state) (sym starts)
           (reached_start start.setting start.words (first_rows start) (set_up_of rules rows u (g.met.R.Rack.level u.rack)));
     }

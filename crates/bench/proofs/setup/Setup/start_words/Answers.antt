@@ -16,9 +16,9 @@ returns-then-board-boards g c =
     let past : n ≤ k = omega (arith, c.boards.ensures, c.if-board-boards.true) in
     let F : List Words → Start = λ ws. record { setting = record { rules = g.R.Rack.rules; end = u.end }; words = ws; rows = g.R.Rack.rows u.rack } in
     record {
-      board-starts-with-the-words = ap F (sym (set_past (take n u.starts) k c.args.words (omega (arith, length-take n u.starts, past))));
-      refuses-where-no-board-is = sym (cond-false (ltb k n) (Ok tt) (Err NoBoard) (le-ltb k n past));
-      rack-stays = refl;
+      board_starts_with_the_words = ap F (sym (set_past (take n u.starts) k c.args.words (omega (arith, length-take n u.starts, past))));
+      refuses_where_no_board_is = sym (cond-false (ltb k n) (Ok tt) (Err NoBoard) (le-ltb k n past));
+      rack_stays = refl;
     }
 
 pub returns : goal.returns
@@ -29,7 +29,7 @@ returns g c =
     let within : k < n = omega (arith, c.boards.ensures, c.if-board-boards.false) in
     let F : List Words → Start = λ ws. record { setting = record { rules = g.R.Rack.rules; end = u.end }; words = ws; rows = g.R.Rack.rows u.rack } in
     record {
-      board-starts-with-the-words = ap F (take_set n u.starts c.from.result c.args.words ∙ ap (λ (i : ℕ). set (take n u.starts) i c.args.words) c.from.ensures);
-      refuses-where-no-board-is = sym (cond-true (ltb k n) (Ok tt) (Err NoBoard) (lt-ltb k n within));
-      rack-stays = refl;
+      board_starts_with_the_words = ap F (take_set n u.starts c.from.result c.args.words ∙ ap (λ (i : ℕ). set (take n u.starts) i c.args.words) c.from.ensures);
+      refuses_where_no_board_is = sym (cond-true (ltb k n) (Ok tt) (Err NoBoard) (lt-ltb k n within));
+      rack_stays = refl;
     }
