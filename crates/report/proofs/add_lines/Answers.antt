@@ -8,7 +8,7 @@ use Rattle.report.proofs.add_lines.Goals as goal
 pub loop-message-preserved : goal.loop-message-preserved
 loop-message-preserved c =
     let lt : c.loop-message.message-index < length c.args.log.now = search rules in
-    let wrote = two_pieces _ _ _ (codes "L ") _ c.in-ok-push-str.ensures.bytes c.in-ok-end-with-fields.ensures in
+    let wrote = two_pieces _ _ _ (codes "L ") _ c.in_ok-push_str.ensures.bytes c.in_ok-end_with_fields.ensures in
     line_more log_line _ _ _ c.args.log.now c.loop-message.message-index _ lt c.loop-message.invariant wrote
 
 pub returns : goal.returns

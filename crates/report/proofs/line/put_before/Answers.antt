@@ -3,8 +3,8 @@ use Rattle.std.proofs.Common.{◌++◌, decimal, ap, ◌∙◌, arith}
 use Rattle.report.proofs.Digits.{byte_before, byte_text}
 use Rattle.report.proofs.line.put_before.Goals as goal
 
-pub put-number-requires : goal.put-number-requires
-put-number-requires c =
+pub put_number-requires : goal.put_number-requires
+put_number-requires c =
     record {
       room = omega arith;
       within = omega arith;
@@ -15,7 +15,7 @@ pub returns : goal.returns
 returns c =
     record {
       bound = omega arith;
-      within = c.put-number.ensures.within;
-      value = c.put-number.ensures.value ∙ ap (λ l. decimal c.args.n ++ l) (byte_before c.args.line.now c.args.end 32 (omega arith) (omega arith));
-      text = c.put-number.ensures.text;
+      within = c.put_number.ensures.within;
+      value = c.put_number.ensures.value ∙ ap (λ l. decimal c.args.n ++ l) (byte_before c.args.line.now c.args.end 32 (omega arith) (omega arith));
+      text = c.put_number.ensures.text;
     }

@@ -6,8 +6,8 @@ use Rattle.report.proofs.line.put_number.Goals as goal
 pub loop-rest-init : goal.loop-rest-init
 loop-rest-init c = (c.requires.within, c.told-line, omega arith, omega arith, refl)
 
-pub overflow-sub-start : goal.overflow-sub-start
-overflow-sub-start c = omega arith
+pub overflow_sub-start : goal.overflow_sub-start
+overflow_sub-start c = omega arith
 
 pub bounds-line-start : goal.bounds-line-start
 bounds-line-start c = omega arith
@@ -19,8 +19,8 @@ loop-rest-preserved c =
     let sofar = digit_more l.line _ l.start l.rest _ (omega arith) (omega arith) c.loop-rest-test.true (omega arith) refl l.invariant.4 in
     (omega arith, long, omega arith, room_left _ c.args.line.now _ c.args.end _ c.args.n (long ∙ sym c.told-line) (omega (arith, long)) (omega arith) (omega arith) (omega arith) sofar, sofar)
 
-pub overflow-sub-start-2 : goal.overflow-sub-start-2
-overflow-sub-start-2 c = omega arith
+pub overflow_sub-start-2 : goal.overflow_sub-start-2
+overflow_sub-start-2 c = omega arith
 
 pub bounds-line-start-2 : goal.bounds-line-start-2
 bounds-line-start-2 c = omega arith
