@@ -1,6 +1,6 @@
 -- A whole text: its lines so far, and that it lists one schedule at most.
 use Rattle.std.proofs.Common.{◌≡◌, ℕ, ◌+◌, ◌-◌, ◌^◌, ◌<◌, ◌≤◌, List, [], ◌∷◌, ◌++◌, length, get_or, take, drop, Ok, Err, Result, sym, refl, ap, ◌∙◌, subst, ap₂, inl, inr, append_assoc, append-nil, arith, length-append, MatchResult}
-use Rattle.std.specs.List.{flat_map, AllByRecursion as All}
+use Rattle.std.specs.List.{flat_map, AllByRecursion}
 use Rattle.std.proofs.lemmas.List.{flat_map_more}
 use Rattle.std.proofs.ByRecursion.{All-push}
 use Rattle.schedule.specs.declared.call.Call.{Call}
@@ -72,7 +72,7 @@ line_read lines rest after calls call laid opened =
 pub record Measured (lines rest : List ℕ) (size line : ℕ) : Type 0 where
   pub calls : List Call
   pub laid : lines ≡ flat_map call_line calls ++ rest
-  pub within : All Within calls
+  pub within : AllByRecursion Within calls
   pub counted : size ≡ 6 + length (flat_map bytes_of calls)
   pub small : size ≤ 60000
   pub numbered : line ≡ length calls + 2
@@ -101,7 +101,7 @@ measured_all lines [] size line m none = record { calls = m.calls; laid = m.laid
 measured_all lines (c ∷ rest) size line m none = absurd (omega arith)
 
 -- the text with the line of the end time before
-opens_with : (text lines rest : List ℕ) (end : ℕ) (calls : List Call) → text ≡ end_line end ++ lines → end < 2 ^ 32 → lines ≡ flat_map call_line calls ++ rest → All Within calls → OpensWith text end calls rest
+opens_with : (text lines rest : List ℕ) (end : ℕ) (calls : List Call) → text ≡ end_line end ++ lines → end < 2 ^ 32 → lines ≡ flat_map call_line calls ++ rest → AllByRecursion Within calls → OpensWith text end calls rest
 opens_with text lines rest end calls first fits laid within = record {
   laid = first ∙ ap (λ l. end_line end ++ l) laid ∙ sym (append_assoc (end_line end) (flat_map call_line calls) rest);
   end_within = fits;
@@ -151,7 +151,7 @@ refuses_size lines rest after size line more call m opened fits long large text 
 pub record Written (lines rest before now : List ℕ) : Type 0 where
   pub calls : List Call
   pub laid : lines ≡ flat_map call_line calls ++ rest
-  pub within : All Within calls
+  pub within : AllByRecursion Within calls
   pub written : now ≡ before ++ flat_map bytes_of calls
 
 pub written_none : (lines before : List ℕ) → Written lines lines before before
@@ -177,9 +177,9 @@ pub record Goes_on (calls front : List Call) (rest : List ℕ) : Type 0 where
   pub more : List Call
   pub calls_are : calls ≡ front ++ more
   pub rest_is : rest ≡ flat_map call_line more
-  pub within : All Within more
+  pub within : AllByRecursion Within more
 
-goes_on : (calls front : List Call) (rest : List ℕ) → All Within calls → All Within front → flat_map call_line calls ≡ flat_map call_line front ++ rest → Goes_on calls front rest
+goes_on : (calls front : List Call) (rest : List ℕ) → AllByRecursion Within calls → AllByRecursion Within front → flat_map call_line calls ≡ flat_map call_line front ++ rest → Goes_on calls front rest
 goes_on calls [] rest hc hf e = record { more = calls; calls_are = refl; rest_is = sym e; within = hc }
 goes_on [] (f ∷ front) rest hc hf e =
     let some = line_some f (flat_map call_line front ++ rest) in
@@ -191,7 +191,7 @@ goes_on (c ∷ calls) (f ∷ front) rest hc hf e =
     record { more = on.more; calls_are = ap₂ (λ x xs. x ∷ xs) same.0 on.calls_are; rest_is = on.rest_is; within = on.within }
 
 -- no call goes on at a line at fault
-ends_there : (rest : List ℕ) (why : Why) (more : List Call) → All Within more → rest ≡ flat_map call_line more → LineFault rest why → more ≡ []
+ends_there : (rest : List ℕ) (why : Why) (more : List Call) → AllByRecursion Within more → rest ≡ flat_map call_line more → LineFault rest why → more ≡ []
 ends_there rest why [] within e fault = refl
 ends_there rest why (call ∷ more) within e fault = absurd (no_line call rest (flat_map call_line more) why within.0 fault e)
 
@@ -199,7 +199,7 @@ ends_there rest why (call ∷ more) within e fault = absurd (no_line call rest (
 pub record Sound (text : List ℕ) (end : ℕ) (calls : List Call) : Type 0 where
   pub laid : text ≡ end_line end ++ flat_map call_line calls
   pub end_within : end < 2 ^ 32
-  pub within : All Within calls
+  pub within : AllByRecursion Within calls
   pub small : length (encode end calls) ≤ 60000
 
 abbrev listed_of : Result (ℕ × List Call) Fault → List ℕ

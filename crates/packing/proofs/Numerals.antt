@@ -4,7 +4,7 @@ use mathlib.Core.List.{append_cancel_left}
 use Rattle.std.proofs.lemmas.List.{get_or_append_left}
 use Rattle.std.proofs.lemmas.Fmt.{decimal_digit, decimal_step, decimal_nonempty, first_decimal, digits_decimal, digits_value-decimal}
 use Rattle.std.proofs.lemmas.Str.Parse.{IsNumeralModel, numerals_by_fold}
-use Rattle.std.specs.List.{AllByRecursion as All}
+use Rattle.std.specs.List.{AllByRecursion}
 use Rattle.schedule.proofs.Fronts.{opens_1}
 use Rattle.packing.specs.declared.error.Why.{Why}
 use Rattle.packing.specs.Wrong.{NoDigit, LeadingZero, Above, NumberFault}
@@ -34,20 +34,20 @@ read_on n (c ∷ cs) = read_on (10 * n + (c - 48)) cs
 abbrev Digit : ℕ → Type 0
 Digit c = (48 ≤ c) × (c ≤ 57)
 
-own : IsNumeralModel (All Digit) (read_on 0)
+own : IsNumeralModel (AllByRecursion Digit) (read_on 0)
 own = numerals_by_fold _ (search rules) read_on (search rules)
 
-decimal_digits : (n : ℕ) → n < 2 ^ 64 → All Digit (decimal n)
+decimal_digits : (n : ℕ) → n < 2 ^ 64 → AllByRecursion Digit (decimal n)
 decimal_digits n small = digits_decimal own n small
 
 -- the digits that a text opens with are the number's, and maybe more
 pub record Longer (ds more es : List ℕ) : Type 0 where
   pub extra : List ℕ
   pub laid : es ≡ ds ++ extra
-  pub digits : All Digit extra
+  pub digits : AllByRecursion Digit extra
 
 -- of two runs of digits with a common continuation, the one that no digit follows is the longer
-longer : (ds es r s : List ℕ) → All Digit ds → All Digit es → NoDigit s → ds ++ r ≡ es ++ s → Longer ds r es
+longer : (ds es r s : List ℕ) → AllByRecursion Digit ds → AllByRecursion Digit es → NoDigit s → ds ++ r ≡ es ++ s → Longer ds r es
 longer [] es r s hd he stop e = record { extra = es; laid = refl; digits = he }
 longer (d ∷ ds) [] r (c ∷ s) hd he stop e =
     let same : d ≡ c = cc in
@@ -87,7 +87,7 @@ same_number m n r s mf nf e stop-r stop-s =
 opens_number : (m : ℕ) (text rest : List ℕ) → m < 2 ^ 64 → NoDigit text → text ≡ decimal m ++ rest → ⊥
 opens_number m text rest small none e = opens_digit (decimal m) (decimal_digits m small) (decimal_nonempty m small) (subst NoDigit e none)
   where
-    opens_digit : (ds : List ℕ) → All Digit ds → 0 < length ds → NoDigit (ds ++ rest) → ⊥
+    opens_digit : (ds : List ℕ) → AllByRecursion Digit ds → 0 < length ds → NoDigit (ds ++ rest) → ⊥
     opens_digit [] h some none = omega arith
     opens_digit (d ∷ ds) h some none = ⊎_elim (λ low. let k = h.0.0 in omega arith) (λ high. let k = h.0.1 in omega arith) none
 

@@ -1,6 +1,6 @@
 -- A text is refused for one reason.
 use Rattle.std.proofs.Common.{◌≡◌, ℕ, ◌+◌, ◌^◌, ◌<◌, Bool, true, false, cond, eqb, ◌⊎◌, List, [], ◌∷◌, ◌++◌, length, Some, None, decimal, Option, sym, refl, ap, ◌∙◌, subst, ap₂, inl, inr, append_assoc, append-nil, arith, length-append}
-use Rattle.std.specs.List.{flat_map, AllByRecursion as All}
+use Rattle.std.specs.List.{flat_map, AllByRecursion}
 use Rattle.schedule.specs.declared.call.Call.{Call}
 use Rattle.schedule.specs.Layout.{bytes_of, Within}
 use Rattle.listing.specs.Listed.{call_line, end_line}
@@ -27,7 +27,7 @@ ending_why (c ∷ text) a b x y = x.1 ∙ sym y.1
 
 -- the widths are 32 bits at most
 abbrev Narrow : List ℕ → Type 0
-Narrow mosts = All (λ most. most < 2 ^ 32) mosts
+Narrow mosts = AllByRecursion (λ most. most < 2 ^ 32) mosts
 
 fields_why : (mosts text : List ℕ) (a b : Why) → Narrow mosts → FieldsFault mosts text a → FieldsFault mosts text b → a ≡ b
 fields_why [] text a b w x y = ending_why text a b x y
@@ -89,9 +89,9 @@ record After (calls front : List Call) (r s : List ℕ) : Type 0 where
   more : List Call
   calls_are : calls ≡ front ++ more
   rest_is : s ≡ flat_map call_line more ++ r
-  within : All Within more
+  within : AllByRecursion Within more
 
-meet : (a b : List Call) (r s : List ℕ) → All Within a → All Within b → flat_map call_line a ++ r ≡ flat_map call_line b ++ s → After a b r s ⊎ After b a s r
+meet : (a b : List Call) (r s : List ℕ) → AllByRecursion Within a → AllByRecursion Within b → flat_map call_line a ++ r ≡ flat_map call_line b ++ s → After a b r s ⊎ After b a s r
 meet a [] r s ha hb e = inl (record { more = a; calls_are = refl; rest_is = sym e; within = ha })
 meet [] (y ∷ b) r s ha hb e = inr (record { more = y ∷ b; calls_are = refl; rest_is = e; within = hb })
 meet (x ∷ a) (y ∷ b) r s ha hb e = go (meet a b r s ha.1 hb.1 same.1)
@@ -107,7 +107,7 @@ meet (x ∷ a) (y ∷ b) r s ha hb e = go (meet a b r s ha.1 hb.1 same.1)
 none_after : (calls front : List Call) (r s : List ℕ) (why : Why) → After calls front r s → LineFault s why → (calls ≡ front) × (s ≡ r)
 none_after calls front r s why t fault = go t.more t.calls_are t.rest_is t.within
   where
-    go : (more : List Call) → calls ≡ front ++ more → s ≡ flat_map call_line more ++ r → All Within more → (calls ≡ front) × (s ≡ r)
+    go : (more : List Call) → calls ≡ front ++ more → s ≡ flat_map call_line more ++ r → AllByRecursion Within more → (calls ≡ front) × (s ≡ r)
     go [] are is within = (are ∙ append-nil front, is)
     go (call ∷ more) are is within = absurd (no_line call s (flat_map call_line more ++ r) why within.0 fault (is ∙ append_assoc (call_line call) (flat_map call_line more) r))
 

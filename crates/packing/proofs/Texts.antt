@@ -1,6 +1,6 @@
 -- A line of a listing is read in one way, and where a line is at fault, none stands.
 use Rattle.std.proofs.Common.{◌≡◌, ℕ, ◌+◌, ◌-◌, ◌^◌, ◌<◌, ◌≤◌, cond, eqb, List, [], ◌∷◌, ◌++◌, length, get_or, take, drop, decimal, sym, refl, ap, ◌∙◌, subst, ap₂, inl, inr, append_assoc, arith}
-use Rattle.std.specs.List.{AllByRecursion as All}
+use Rattle.std.specs.List.{AllByRecursion}
 use Rattle.std.proofs.lemmas.List.{take_rest}
 use Rattle.schedule.specs.declared.call.Call.{Call}
 use Rattle.schedule.specs.declared.call.Call.TheVariants.{Offer, Deliver, Run, Outlook, Commit}
@@ -68,7 +68,7 @@ UpTo (n ∷ ns) [] = ⊥
 UpTo (n ∷ ns) (most ∷ mosts) = (n ≤ most) × UpTo ns mosts
 
 abbrev pub Small : List ℕ → Type 0
-Small ns = All (λ n. n < 2 ^ 64) ns
+Small ns = AllByRecursion (λ n. n < 2 ^ 64) ns
 
 fields_stop : (ns rest : List ℕ) → NoDigit (fields ns rest)
 fields_stop [] rest = inl (omega arith)
@@ -110,7 +110,7 @@ no_ending : (text rest : List ℕ) (why : Why) → EndingFault text why → text
 no_ending [] rest why fault e = let z : ◌≡◌ {A = ℕ} 0 1 = cc in omega arith
 no_ending (c ∷ text) rest why fault e = let is : c ≡ 10 = cc in fault.0 is
 
-no_fields : (mosts ns text rest : List ℕ) (why : Why) → All (λ most. most < 2 ^ 32) mosts → FieldsFault mosts text why → UpTo ns mosts → text ≡ fields ns rest → ⊥
+no_fields : (mosts ns text rest : List ℕ) (why : Why) → AllByRecursion (λ most. most < 2 ^ 32) mosts → FieldsFault mosts text why → UpTo ns mosts → text ≡ fields ns rest → ⊥
 no_fields [] [] text rest why w fault up e = no_ending text rest why fault e
 no_fields [] (n ∷ ns) text rest why w fault up e = up
 no_fields (most ∷ mosts) [] text rest why w fault up e = up

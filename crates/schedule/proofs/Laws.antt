@@ -1,6 +1,6 @@
 -- What the layout's writer and the rules of the faults have to do with each other.
 use Rattle.std.proofs.Common.{◌≡◌, ℕ, ◌+◌, ◌-◌, ◌^◌, ◌<◌, ◌≤◌, cond, ltb, List, [], ◌∷◌, ◌++◌, length, Some, None, Ok, Err, Option, Result, unwrap_or, sym, refl, ap, ◌∙◌, subst, append_assoc, append-nil, add-zero, arith, length-append}
-use Rattle.std.specs.List.{flat_map, AllByRecursion as All}
+use Rattle.std.specs.List.{flat_map, AllByRecursion}
 use Rattle.std.proofs.lemmas.Bool.{le-ltb, cond-false}
 use Rattle.std.proofs.lemmas.List.{flat_map_more}
 use Rattle.std.proofs.ByRecursion.{All-push}
@@ -64,7 +64,7 @@ pub record Sofar (bytes : List ℕ) (end : ℕ) (calls : List Call) (rest : List
   pub laid : bytes ≡ encode end calls ++ rest
   pub small : length bytes ≤ 60000
   pub end_within : end < 2 ^ 32
-  pub within : All Within calls
+  pub within : AllByRecursion Within calls
   pub fault : fault_of bytes ≡ calls_fault (length bytes - length rest) 0 rest
   pub left : length rest ≤ length bytes
 

@@ -1,6 +1,6 @@
 -- The reading of a file, and the layout.
 use Rattle.std.proofs.Common.{◌≡◌, ℕ, zero, suc, ◌+◌, ◌-◌, ◌*◌, ◌^◌, ◌<◌, ◌≤◌, Bool, true, false, cond, eqb, ltb, List, [], ◌∷◌, ◌++◌, length, get_or, take, drop, Some, None, Ok, Err, Option, Result, unwrap_or, sym, refl, ap, ◌∙◌, subst, ap₂, ⊎_elim, append_assoc, le_of_suc-le-suc, add-zero, arith, length-append, length-drop, take-append-drop, get_or-drop, drop-cons, drop-drop, w8, Fits}
-use Rattle.std.specs.List.{flat_map, AllByRecursion as All}
+use Rattle.std.specs.List.{flat_map, AllByRecursion}
 use Rattle.std.proofs.lemmas.Bool.{ltb-false, ne_eqb, eqb-true, cond-false, cond-true, cases_eq, cases_Bool}
 use Rattle.std.proofs.lemmas.List.{take_rest}
 use Rattle.schedule.specs.declared.call.CallFault.{CallFault}
@@ -146,7 +146,7 @@ passed : (o : Option CallFault) (x : Option Fault) (offset : ℕ) → after_call
 passed None x offset e = (refl, e)
 passed (Some f) x offset e = absurd (some_none e)
 
-calls_laid : (bytes : List ℕ) (offset skip : ℕ) → Bytes bytes → skip ≤ length bytes → calls_fault offset skip bytes ≡ None → (drop skip bytes ≡ flat_map bytes_of (calls_of skip bytes)) × All Within (calls_of skip bytes)
+calls_laid : (bytes : List ℕ) (offset skip : ℕ) → Bytes bytes → skip ≤ length bytes → calls_fault offset skip bytes ≡ None → (drop skip bytes ≡ flat_map bytes_of (calls_of skip bytes)) × AllByRecursion Within (calls_of skip bytes)
 calls_laid [] offset zero fit h none = (refl, tt)
 calls_laid [] offset (suc skip) fit h none = (refl, tt)
 calls_laid (b ∷ rest) offset (suc skip) fit h none = calls_laid rest (offset + 1) skip (λ i. fit (suc i)) (le_of_suc-le-suc h) none
@@ -199,7 +199,7 @@ read_was_written bytes end calls fit e =
       laid = front ∙ (λ i. encode (read.1 i) [] ++ rest i) ∙ ap (λ l. encode end l) read.2;
       small = header.0;
       end_within = subst (λ n. n < 2 ^ 32) read.1 (small_four (drop 2 bytes) (bytes_drop bytes 2 fit));
-      within = subst (All Within) read.2 laid.1;
+      within = subst (AllByRecursion Within) read.2 laid.1;
     }
 
 pub reads_the_layout : (bytes : List ℕ) → Bytes bytes → ReadsTheLayout bytes
@@ -214,7 +214,7 @@ record Stop (offset : ℕ) (bytes : List ℕ) (fault : Fault) : Type 0 where
   rest : List ℕ
   why : CallFault
   laid : bytes ≡ flat_map bytes_of calls ++ letter ∷ rest
-  within : All Within calls
+  within : AllByRecursion Within calls
   broken : call_fault letter rest ≡ Some why
   told : fault ≡ placed (offset + length (flat_map bytes_of calls)) why
 

@@ -2,11 +2,11 @@
 use Rattle.std.proofs.Common.{append_assoc, rules}
 use Rattle.packing.proofs.bytes.push_call.Goals as goal
 
-pub returns-in-ok-push-two : goal.returns-in-ok-push-two
-returns-in-ok-push-two c = search (rules, append_assoc)
+pub returns-in_ok-push_two-in-Deliver : goal.returns-in_ok-push_two-in-Deliver
+returns-in_ok-push_two-in-Deliver c = search (rules, append_assoc)
 
-pub returns-in-ok-push-3 : goal.returns-in-ok-push-3
-returns-in-ok-push-3 c = search (rules, append_assoc)
+pub returns-in_ok-push-in-Run-2 : goal.returns-in_ok-push-in-Run-2
+returns-in_ok-push-in-Run-2 c = search (rules, append_assoc)
 
-pub returns-in-ok-push-two-2 : goal.returns-in-ok-push-two-2
-returns-in-ok-push-two-2 c = search (rules, append_assoc)
+pub returns-in_ok-push_two-in-Commit : goal.returns-in_ok-push_two-in-Commit
+returns-in_ok-push_two-in-Commit c = search (rules, append_assoc)

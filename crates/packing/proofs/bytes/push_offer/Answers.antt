@@ -7,8 +7,8 @@ use Rattle.packing.proofs.bytes.push_offer.Goals as goal
 pub returns : goal.returns
 returns c =
     offer_pushed (vec_items c.args.bytes.now) _ _ _ _ _ c.args.time c.args.destination c.args.kind c.args.payload
-    (chosen _ _ _ _ c.push.ensures.items (ap is_ok c.in-ok-push.was))
-    c.in-ok-push-four.ensures
-    (chosen _ _ _ _ c.push-2.ensures.items (ap is_ok c.in-ok-push-2.was))
-    (chosen _ _ _ _ c.push-3.ensures.items (ap is_ok c.in-ok-push-3.was))
-    c.in-ok-push-four-2.ensures
+    (chosen _ _ _ _ c.push.ensures.items (ap is_ok c.in_ok-push.was))
+    c.in_ok-push_four.ensures
+    (chosen _ _ _ _ c.push-2.ensures.items (ap is_ok c.in_ok-push-2.was))
+    (chosen _ _ _ _ c.push-3.ensures.items (ap is_ok c.in_ok-push-3.was))
+    c.in_ok-push_four-2.ensures

@@ -10,6 +10,6 @@ returns c =
     let some : 1 ≤ length c.args.text.now = search rules in
     let is : get_or c.args.text.now 0 0 ≡ 32 = search rules in
     let opened = opens_at c.args.text.now 32 some is in
-    MatchResult-weaker c.read-number.result c.read-number.ensures
+    MatchResult-weaker c.read_number.result c.read_number.ensures
     (λ x h. (opened ∙ ap (λ l. 32 ∷ l) h.0, h.1, h.2))
     (λ why h. subst (λ l. FieldFault c.args.most l why) (sym opened) (inr (refl, h)))

@@ -2,11 +2,11 @@
 use Rattle.std.proofs.Common.{append_assoc, rules}
 use Rattle.packing.proofs.line.read_call_line.Goals as goal
 
-pub returns-in-ok-index : goal.returns-in-ok-index
-returns-in-ok-index c = search (rules, append_assoc)
+pub returns-in_ok-index-in-d : goal.returns-in_ok-index-in-d
+returns-in_ok-index-in-d c = search (rules, append_assoc)
 
-pub returns-in-ok-board : goal.returns-in-ok-board
-returns-in-ok-board c = search (rules, append_assoc)
+pub returns-in_ok-board-in-r : goal.returns-in_ok-board-in-r
+returns-in_ok-board-in-r c = search (rules, append_assoc)
 
-pub returns-in-ok-most : goal.returns-in-ok-most
-returns-in-ok-most c = search (rules, append_assoc)
+pub returns-in_ok-most-in-c : goal.returns-in_ok-most-in-c
+returns-in_ok-most-in-c c = search (rules, append_assoc)

@@ -11,6 +11,6 @@ returns c =
     let n : get_or c.args.text.now 1 0 ≡ 110 = search rules in
     let d : get_or c.args.text.now 2 0 ≡ 100 = search rules in
     let opened = opens_end c.args.text.now some e n d in
-    MatchResult-weaker c.last-field.result c.last-field.ensures
+    MatchResult-weaker c.last_field.result c.last_field.ensures
     (λ x h. (opened ∙ ap (λ l. 101 ∷ 110 ∷ 100 ∷ l) h.0 ∙ sym (end_line_laid x.0 _), omega (arith, h.1)))
     (λ why h. inr (_, opened, h))

@@ -4,18 +4,18 @@ use Rattle.std.proofs.lemmas.Result.{err_from_is_err_and}
 use Rattle.packing.proofs.Texts.{past_field, offer_laid}
 use Rattle.packing.proofs.line.read_offer.Goals as goal
 
-pub returns-in-err-payload : goal.returns-in-err-payload
-returns-in-err-payload c =
-    let p = err_from_is_err_and c.from-residual-in-err-payload.result c.from-residual-in-err-payload.ensures.1 in
+pub returns-in_err-payload : goal.returns-in_err-payload
+returns-in_err-payload c =
+    let p = err_from_is_err_and c.from_residual-in_err-payload.result c.from_residual-in_err-payload.ensures.1 in
     rw (p.1, p.2)
-    (past_field 4294967295 _ (255 ∷ 255 ∷ 4294967295 ∷ []) c.args.fields.now _ _ c.in-ok-time.ensures
-    (past_field 255 _ (255 ∷ 4294967295 ∷ []) _ _ _ c.in-ok-destination.ensures
-    (past_field 255 _ (4294967295 ∷ []) _ _ _ c.in-ok-kind.ensures c.in-err-payload.ensures)))
+    (past_field 4294967295 _ (255 ∷ 255 ∷ 4294967295 ∷ []) c.args.fields.now _ _ c.in_ok-time.ensures
+    (past_field 255 _ (255 ∷ 4294967295 ∷ []) _ _ _ c.in_ok-destination.ensures
+    (past_field 255 _ (4294967295 ∷ []) _ _ _ c.in_ok-kind.ensures c.in_err-payload.ensures)))
 
 pub returns : goal.returns
 returns c =
-    let time = c.in-ok-time.ensures in
-    let destination = c.in-ok-destination.ensures in
-    let kind = c.in-ok-kind.ensures in
-    let payload = c.in-ok-payload.ensures in
+    let time = c.in_ok-time.ensures in
+    let destination = c.in_ok-destination.ensures in
+    let kind = c.in_ok-kind.ensures in
+    let payload = c.in_ok-payload.ensures in
     (offer_laid _ _ _ _ c.args.fields.now _ _ _ _ time.0 destination.0 kind.0 payload.0, search rules)
