@@ -1,15 +1,12 @@
 // Files with each fault, the shortest and the longest file, and calls cut short, by what is printed of them.
 use crate::list;
 use report::NoMemory;
-use std::process::Abort;
 use std::test::Fail;
 
-fn expect(rt: &(impl Abort + AllocGlobal), bytes: &[u8], printed: &str) -> Result<(), Fail> {
+fn expect(rt: &impl AllocGlobal, bytes: &[u8], printed: &str) -> Result<(), Fail> {
     match list(rt.alloc(), bytes) {
-        Ok(text) => {
-            assert!(rt; text.as_str() == printed);
-            Ok(())
-        },
+        Ok(text) if text.as_str() == printed => Ok(()),
+        Ok(_) => Err(Fail::new("another text")),
         Err(NoMemory) => Err(Fail::new("no memory")),
     }
 }
