@@ -1,6 +1,6 @@
 -- What an arrival does to the queues of a board.
 use Rattle.std.proofs.Common.{◌≡◌, ℕ, suc, ◌+◌, ◌-◌, ◌≤◌, true, false, cond, ◌⊎◌, List, [], ◌∷◌, ◌++◌, map, length, take, drop, sym, refl, ap, ◌∙◌, subst, inl, inr, add-one, arith}
-use Rattle.std.specs.List.{AllByRecursion as All}
+use Rattle.std.specs.List.{AllByRecursion}
 use Rattle.std.proofs.ByRecursion.{All-append, All-map, All-weaker}
 use Rattle.std.proofs.lemmas.List.{append_assoc, drop_all, length-append, length-map, map-append, take_all, take-append-drop}
 use Rattle.std.proofs.lemmas.Bool.{cases_Bool, false≢true, true≢false}
@@ -24,7 +24,7 @@ abbrev pub messages : List Event → List Message
 messages es = map (λ (e : Event). e.message) es
 
 -- lists of events
-pub all_unmap : {A B : Type 0} (P : B → Type 0) (f : A → B) (xs : List A) → All P (map f xs) → All (λ x. P (f x)) xs
+pub all_unmap : {A B : Type 0} (P : B → Type 0) (f : A → B) (xs : List A) → AllByRecursion P (map f xs) → AllByRecursion (λ x. P (f x)) xs
 all_unmap P f [] h = tt
 all_unmap P f (x ∷ xs) h = (h.0, all_unmap P f xs h.1)
 
@@ -52,28 +52,28 @@ not_after_within m (e ∷ es) = elim (cases_Bool (message_before m e.message)) [
   | inr h ↦ rw h (omega (arith, not_after_within m es))
 ]
 
-front_upto : (m : Message) (es : List Event) → All (λ e. message_before m e.message ≡ false) (take (not_after m es) es)
+front_upto : (m : Message) (es : List Event) → AllByRecursion (λ e. message_before m e.message ≡ false) (take (not_after m es) es)
 front_upto m [] = tt
 front_upto m (e ∷ es) = elim (cases_Bool (message_before m e.message)) [
   | inl h ↦ rw h tt
   | inr h ↦ rw (h, add-one) (h, front_upto m es)
 ]
 
-all_after : (m : Message) (e : Event) (es : List Event) → message_before m e.message ≡ true → Sorted (messages (e ∷ es)) → All (λ f. message_before m f.message ≡ true) (e ∷ es)
+all_after : (m : Message) (e : Event) (es : List Event) → message_before m e.message ≡ true → Sorted (messages (e ∷ es)) → AllByRecursion (λ f. message_before m f.message ≡ true) (e ∷ es)
 all_after m e es h s = (
   h,
   All-weaker (λ (f : Event). message_before f.message e.message ≡ false) (λ f. message_before m f.message ≡ true) (λ f k. before_upto m e.message f.message h k) es
       (all_unmap (λ x. message_before x e.message ≡ false) (λ (f : Event). f.message) es s.0),
 )
 
-back_after : (m : Message) (es : List Event) → Sorted (messages es) → All (λ e. message_before m e.message ≡ true) (drop (not_after m es) es)
+back_after : (m : Message) (es : List Event) → Sorted (messages es) → AllByRecursion (λ e. message_before m e.message ≡ true) (drop (not_after m es) es)
 back_after m [] s = tt
 back_after m (e ∷ es) s = elim (cases_Bool (message_before m e.message)) [
   | inl h ↦ rw h (all_after m e es h s)
   | inr h ↦ rw (h, add-one) (back_after m es s.1)
 ]
 
-none_after : (m : Message) (es : List Event) → All (λ e. message_before m e.message ≡ true) es → has m (messages es) ≡ false
+none_after : (m : Message) (es : List Event) → AllByRecursion (λ e. message_before m e.message ≡ true) es → has m (messages es) ≡ false
 none_after m [] a = refl
 none_after m (e ∷ es) a = rw (before_differs m e.message a.0) (none_after m es a.1)
 
@@ -85,7 +85,7 @@ some_not_after m (e ∷ es) s h = elim (cases_Bool (message_before m e.message))
   | inr k ↦ (not_after m es, rw (k, add-one))
 ]
 
-none_not_after : (m : Message) (es : List Event) → All (λ e. message_before e.message m ≡ false) es → has m (messages es) ≡ false → not_after m es ≡ 0
+none_not_after : (m : Message) (es : List Event) → AllByRecursion (λ e. message_before e.message m ≡ false) es → has m (messages es) ≡ false → not_after m es ≡ 0
 none_not_after m [] a h = refl
 none_not_after m (e ∷ es) a h = elim (cases_Bool (message_before m e.message)) [
   | inl k ↦ rw k
@@ -94,7 +94,7 @@ none_not_after m (e ∷ es) a h = elim (cases_Bool (message_before m e.message))
 
 -- the events from the last equal to m on
 back_last : (m : Message) (es : List Event) → Sorted (messages es) → has m (messages es) ≡ true →
-    All (λ e. message_before e.message m ≡ false) (drop (not_after m es - 1) es) × (has m (messages (drop (not_after m es - 1) es)) ≡ true)
+    AllByRecursion (λ e. message_before e.message m ≡ false) (drop (not_after m es - 1) es) × (has m (messages (drop (not_after m es - 1) es)) ≡ true)
 back_last m [] s h = absurd (false≢true h)
 back_last m (e ∷ es) s h = elim (cases_Bool (message_before m e.message)) [
   | inl k ↦ absurd (false≢true (sym (none_after m (e ∷ es) (all_after m e es k s)) ∙ h))
@@ -107,7 +107,7 @@ back_last m (e ∷ es) s h = elim (cases_Bool (message_before m e.message)) [
     | inr g ↦ elim (cases_Bool (same message_before m e.message)) [
       | inl f ↦
           let is : m ≡ e.message = is_same m e.message f in
-          let upto : All (λ (x : Event). message_before x.message m ≡ false) (e ∷ es) = subst (λ (y : Message). All (λ (x : Event). message_before x.message y ≡ false) (e ∷ es)) (sym is) (irreflexive e.message, all_unmap (λ x. message_before x e.message ≡ false) (λ (x : Event). x.message) es s.0) in
+          let upto : AllByRecursion (λ (x : Event). message_before x.message m ≡ false) (e ∷ es) = subst (λ (y : Message). AllByRecursion (λ (x : Event). message_before x.message y ≡ false) (e ∷ es)) (sym is) (irreflexive e.message, all_unmap (λ x. message_before x e.message ≡ false) (λ (x : Event). x.message) es s.0) in
           let here : not_after m (e ∷ es) - 1 ≡ 0 = rw k (omega (arith, none_not_after m es upto.1 g)) in
           rw here (upto, h)
       | inr f ↦ absurd (false≢true (sym (rw (f, g)) ∙ h))
@@ -197,12 +197,12 @@ pub record Arrives (i : Item) (q : Queues) (a : Arrival) : Type 1 where
   pub standing_is : a.queues.standing ≡ take a.stay q.standing
   pub sent_same : a.queues.sent ≡ q.sent
   pub ordered : Sorted (debit a.queues)
-  pub undone_after : All (λ e. message_before e.message (inside i) ≡ false) (drop a.stay q.standing)
+  pub undone_after : AllByRecursion (λ e. message_before e.message (inside i) ≡ false) (drop a.stay q.standing)
   pub counts : (x : Message) →
       how_many x (credit a.queues) + how_many x (plus_in i) + how_many x (debit q) + how_many x (sends_of (drop a.stay q.standing))
       ≡ how_many x (credit q) + how_many x (minus_in i) + how_many x (debit a.queues)
-  pub opens : (P : Message → Type 0) → All P q.open_ones → P (inside i) → All P (messages (drop a.stay q.standing)) → All P a.queues.open_ones
-  pub earlies : (P : Message → Type 0) → All P q.early → P (inside i) → All P a.queues.early
+  pub opens : (P : Message → Type 0) → AllByRecursion P q.open_ones → P (inside i) → AllByRecursion P (messages (drop a.stay q.standing)) → AllByRecursion P a.queues.open_ones
+  pub earlies : (P : Message → Type 0) → AllByRecursion P q.early → P (inside i) → AllByRecursion P a.queues.early
   pub early_ordered : Sorted q.early → Sorted a.queues.early
   pub apart : Apart q → Apart a.queues
   pub places : room a.queues ≤ room q + cond a.needs_place 1 0

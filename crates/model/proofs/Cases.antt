@@ -1,6 +1,6 @@
 -- The worked case: an equal of the last message that stands.
 use Rattle.std.proofs.Common.{◌≡◌, true, false, List, [], ◌∷◌, ◌++◌, length, take, sym, refl, ap, ◌∙◌, subst, inl, inr, arith}
-use Rattle.std.specs.List.{AllByRecursion as All}
+use Rattle.std.specs.List.{AllByRecursion}
 use Rattle.std.proofs.ByRecursion.{All-append}
 use Rattle.std.proofs.lemmas.List.{append_assoc, drop_all, map-append, take_all}
 use Rattle.std.proofs.lemmas.Bool.{cases_Bool, true≢false}
@@ -19,16 +19,16 @@ use Rattle.model.proofs.Tied.{debit}
 use Rattle.model.proofs.Arrivals.{messages}
 
 -- what stands in front of m in a sorted row is not after m
-front_upto_last : (m : Message) (xs ys : List Message) → Sorted (xs ++ m ∷ ys) → All (λ x. message_before m x ≡ false) xs
+front_upto_last : (m : Message) (xs ys : List Message) → Sorted (xs ++ m ∷ ys) → AllByRecursion (λ x. message_before m x ≡ false) xs
 front_upto_last m [] ys s = tt
 front_upto_last m (x ∷ xs) ys s = ((all_right (λ y. message_before y x ≡ false) xs (m ∷ ys) s.0).0, front_upto_last m xs ys s.1)
 
-all_not_after : (m : Message) (es : List Event) → All (λ x. message_before m x ≡ false) (messages es) → not_after m es ≡ length es
+all_not_after : (m : Message) (es : List Event) → AllByRecursion (λ x. message_before m x ≡ false) (messages es) → not_after m es ≡ length es
 all_not_after m [] a = refl
 all_not_after m (e ∷ es) a = rw a.0 (omega (arith, all_not_after m es a.1))
 
 -- an insertion in front
-first_inserted : (m : Message) (ms : List Message) → All (λ x. message_before x m ≡ false) ms → has m ms ≡ false → insert message_before m ms ≡ m ∷ ms
+first_inserted : (m : Message) (ms : List Message) → AllByRecursion (λ x. message_before x m ≡ false) ms → has m ms ≡ false → insert message_before m ms ≡ m ∷ ms
 first_inserted m [] a h = refl
 first_inserted m (x ∷ xs) a h = elim (cases_Bool (message_before m x)) [
   | inl k ↦ rw k

@@ -1,6 +1,6 @@
 -- Rows and the events that led to them; what a reaction sends.
 use Rattle.std.proofs.Common.{◌≡◌, ℕ, zero, suc, ◌+◌, ◌-◌, ◌<◌, ◌&&◌, ltb, leb, List, [], ◌∷◌, ◌++◌, length, get_or, take, refl, ap, inl, inr, add-zero, add_assoc, arith}
-use Rattle.std.specs.List.{AllByRecursion as All}
+use Rattle.std.specs.List.{AllByRecursion}
 use Rattle.std.proofs.lemmas.List.{length-append}
 use Rattle.std.proofs.lemmas.Bool.{and_parts, cases_Bool, ltb-true}
 use Rattle.bus.specs.Kinds.{outside}
@@ -14,7 +14,7 @@ use Rattle.model.specs.State.{Event, sends_of}
 use Rattle.model.proofs.Tied.{Chain, Known}
 
 -- what a reaction sends
-pub addressed_sent : (c : Setting) (offers k t n : ℕ) (xs : List Send) → k < outside → All (λ x. (t < x.time) × Known c offers x) (addressed c k t n xs)
+pub addressed_sent : (c : Setting) (offers k t n : ℕ) (xs : List Send) → k < outside → AllByRecursion (λ x. (t < x.time) × Known c offers x) (addressed c k t n xs)
 addressed_sent c offers k t n [] h = tt
 addressed_sent c offers k t n (x ∷ xs) h = elim (cases_Bool (ltb x.address (boards_of c) && leb (t + 1 + x.lag) c.end)) [
   | inl e ↦ rw e ((omega arith, (ltb-true x.address (boards_of c) (and_parts _ _ e).0, inl h)), addressed_sent c offers k t (n + 1) xs h)

@@ -1,6 +1,6 @@
 -- A commit keeps bench and machine tied: it writes what the machine takes next, line by line.
 use Rattle.std.proofs.Common.{◌≡◌, ℕ, zero, suc, ◌≤◌, true, false, List, [], ◌∷◌, ◌++◌, map, get_or, take, set, Some, None, Option, sym, refl, ap, ◌∙◌, inl, inr, arith}
-use Rattle.std.specs.List.{AllByRecursion as All}
+use Rattle.std.specs.List.{AllByRecursion}
 use Rattle.std.proofs.ByRecursion.{All-weaker}
 use Rattle.std.proofs.lemmas.List.{append_assoc, append-nil}
 use Rattle.std.proofs.lemmas.Bool.{cases_Bool, true≢false}
@@ -22,12 +22,12 @@ use Rattle.model.proofs.LineTied.{least_pending, one_tied, standing_one}
 
 -- x is before all that is outstanding
 abbrev pub Final : State → Message → Type 0
-Final s x = All (λ y. message_before x y ≡ true) (outstanding s)
+Final s x = AllByRecursion (λ y. message_before x y ≡ true) (outstanding s)
 
 -- the final ones of what stands, in order
 pub record Listed (s : State) (xs : List Message) : Type 0 where
   pub ordered : Sorted xs
-  pub each : All (Final s) xs
+  pub each : AllByRecursion (Final s) xs
   pub all : (x : Message) → Final s x → how_many x xs ≡ how_many x (standing s)
 
 -- `is_final` tests that

@@ -1,6 +1,6 @@
 -- How often a message stands in a list, and the least of a list, told by that.
 use Rattle.std.proofs.Common.{◌≡◌, ℕ, zero, suc, ◌+◌, ◌<◌, ◌≤◌, Bool, true, false, cond, ◌⊎◌, List, [], ◌∷◌, ◌++◌, map, length, get_or, set, Some, None, Option, sym, refl, ap, ◌∙◌, subst, inl, inr, arith}
-use Rattle.std.specs.List.{AllByRecursion as All}
+use Rattle.std.specs.List.{AllByRecursion}
 use Rattle.std.proofs.ByRecursion.{All-append}
 use Rattle.std.proofs.lemmas.Bool.{and_from, cases_Bool, cases_lt, false≢true, not_from_false, true≢false}
 use Rattle.rows.proofs.Minimum.{is_least, least_told, none_before_of}
@@ -61,14 +61,14 @@ pub none_empty : (ms : List Message) → ((x : Message) → how_many x ms ≡ 0)
 none_empty [] h = refl
 none_empty (m ∷ ms) h = absurd (omega (arith, h m, count_cons message_before m m ms, one_self m))
 
-pub all_of : (P : Message → Type 0) (ms : List Message) (x : Message) → All P ms → 1 ≤ how_many x ms → P x
+pub all_of : (P : Message → Type 0) (ms : List Message) (x : Message) → AllByRecursion P ms → 1 ≤ how_many x ms → P x
 all_of P [] x a h = absurd (omega arith)
 all_of P (m ∷ ms) x a h = elim (cases_Bool (same message_before x m)) [
   | inl e ↦ subst P (sym (is_same x m e)) a.0
   | inr e ↦ all_of P ms x a.1 (rw e at h)
 ]
 
-pub none_of : (x : Message) (ms : List Message) → All (λ m. same message_before x m ≡ false) ms → how_many x ms ≡ 0
+pub none_of : (x : Message) (ms : List Message) → AllByRecursion (λ m. same message_before x m ≡ false) ms → how_many x ms ≡ 0
 none_of x [] a = refl
 none_of x (m ∷ ms) a = rw a.0 (none_of x ms a.1)
 
@@ -104,12 +104,12 @@ is_lowest ms x l = is_least message_total x ms (record { stands = l.there; first
         ]))
         (none ys (λ z k. omega (arith, h z k, count_cons message_before z y ys)))
 
-pub all_from : (P : Message → Type 0) (ms : List Message) → ((x : Message) → 1 ≤ how_many x ms → P x) → All P ms
+pub all_from : (P : Message → Type 0) (ms : List Message) → ((x : Message) → 1 ≤ how_many x ms → P x) → AllByRecursion P ms
 all_from P [] h = tt
 all_from P (m ∷ ms) h = (h m (omega (arith, count_cons message_before m m ms, one_self m)), all_from P ms (λ x k. h x (omega (arith, k, count_cons message_before x m ms))))
 
 -- nothing of a list is before its least
-pub least_upto : (ms : List Message) (x : Message) → Lowest x ms → All (λ m. message_before m x ≡ false) ms
+pub least_upto : (ms : List Message) (x : Message) → Lowest x ms → AllByRecursion (λ m. message_before m x ≡ false) ms
 least_upto ms x l = all_from (λ m. message_before m x ≡ false) ms λ m k.
     let go : (message_before m x ≡ true) ⊎ (message_before m x ≡ false) → message_before m x ≡ false = elim [ inl h ↦ absurd (omega (arith, k, l.first m h)) | inr h ↦ h ] in
     go (cases_Bool (message_before m x))
@@ -135,14 +135,14 @@ count_filter_no f x (m ∷ ms) h = elim (cases_Bool (same message_before x m)) [
 ]
 
 -- what holds of each element
-pub all_insert : (P : Message → Type 0) (m : Message) (ms : List Message) → P m → All P ms → All P (insert message_before m ms)
+pub all_insert : (P : Message → Type 0) (m : Message) (ms : List Message) → P m → AllByRecursion P ms → AllByRecursion P (insert message_before m ms)
 all_insert P m [] p h = (p, tt)
 all_insert P m (x ∷ xs) p h = elim (cases_Bool (message_before m x)) [
   | inl k ↦ rw k (p, h)
   | inr k ↦ rw k (h.0, all_insert P m xs p h.1)
 ]
 
-pub all_without : (P : Message → Type 0) (m : Message) (ms : List Message) → All P ms → All P (without_one message_before m ms)
+pub all_without : (P : Message → Type 0) (m : Message) (ms : List Message) → AllByRecursion P ms → AllByRecursion P (without_one message_before m ms)
 all_without P m [] h = tt
 all_without P m (x ∷ xs) h = elim (cases_Bool (same message_before m x)) [
   | inl k ↦ rw k h.1
@@ -150,15 +150,15 @@ all_without P m (x ∷ xs) h = elim (cases_Bool (same message_before m x)) [
 ]
 
 module _ {A : Type 0} (P : A → Type 0) where
-  pub all_left : (xs ys : List A) → All P (xs ++ ys) → All P xs
+  pub all_left : (xs ys : List A) → AllByRecursion P (xs ++ ys) → AllByRecursion P xs
   all_left [] ys h = tt
   all_left (x ∷ xs) ys h = (h.0, all_left xs ys h.1)
 
-  pub all_right : (xs ys : List A) → All P (xs ++ ys) → All P ys
+  pub all_right : (xs ys : List A) → AllByRecursion P (xs ++ ys) → AllByRecursion P ys
   all_right [] ys h = h
   all_right (x ∷ xs) ys h = all_right xs ys h.1
 
-  pub all_flat : {B : Type 0} (f : B → List A) (qs : List B) → All (λ q. All P (f q)) qs → All P (flat (map f qs))
+  pub all_flat : {B : Type 0} (f : B → List A) (qs : List B) → AllByRecursion (λ q. AllByRecursion P (f q)) qs → AllByRecursion P (flat (map f qs))
   all_flat f [] h = tt
   all_flat f (q ∷ qs) h = All-append P (f q) (flat (map f qs)) h.0 (all_flat f qs h.1)
 

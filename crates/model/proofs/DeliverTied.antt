@@ -1,6 +1,6 @@
 -- A delivery keeps bench and machine tied.
 use Rattle.std.proofs.Common.{◌≡◌, ℕ, zero, suc, ◌+◌, ◌-◌, ◌<◌, true, false, List, [], ◌∷◌, ◌++◌, map, length, get_or, take, drop, refl, ap, ◌∙◌, add-one, arith}
-use Rattle.std.specs.List.{AllByRecursion as All}
+use Rattle.std.specs.List.{AllByRecursion}
 use Rattle.std.proofs.ByRecursion.{All-append, All-drop, All-get_or, All-map, All-take, All-weaker}
 use Rattle.std.proofs.lemmas.List.{length-map, length-take, map-append}
 use Rattle.rows.proofs.Sorted.{count_append}
@@ -33,10 +33,10 @@ count_left x f (suc i) d (y ∷ ys) h =
     let more : suc i + 1 ≡ suc (i + 1) = omega arith in
     rw more (omega (arith, count_left x f i d ys (omega arith), count_append message_before x (f y) (flat (map f (without i ys))), count_append message_before x (f y) (flat (map f ys))))
 
-all_left_out : {A : Type 0} (P : A → Type 0) (i : ℕ) (xs : List A) → All P xs → All P (without i xs)
+all_left_out : {A : Type 0} (P : A → Type 0) (i : ℕ) (xs : List A) → AllByRecursion P xs → AllByRecursion P (without i xs)
 all_left_out P i xs h = All-append P (take i xs) (drop (i + 1) xs) (All-take P i xs h) (All-drop P (i + 1) xs h)
 
-all_and : {A : Type 0} (P Q : A → Type 0) (xs : List A) → All P xs → All Q xs → All (λ x. P x × Q x) xs
+all_and : {A : Type 0} (P Q : A → Type 0) (xs : List A) → AllByRecursion P xs → AllByRecursion Q xs → AllByRecursion (λ x. P x × Q x) xs
 all_and P Q [] h k = tt
 all_and P Q (x ∷ xs) h k = ((h.0, k.0), all_and P Q xs h.1 k.1)
 
@@ -59,12 +59,12 @@ module _ (c : Setting) (offers : ℕ) (ls : List Message) (k : ℕ) (w : Words) 
     later = All-weaker (λ l. message_before l (inside i) ≡ true) (λ l. message_before l e.message ≡ true) (λ l g. before_upto l (inside i) e.message g h.1) ls waits.later;
   }
 
-  undone_are : All (λ e. Stands c offers ls k e × (message_before e.message (inside i) ≡ false)) undone
+  undone_are : AllByRecursion (λ e. Stands c offers ls k e × (message_before e.message (inside i) ≡ false)) undone
   undone_are = all_and (Stands c offers ls k) (λ e. message_before e.message (inside i) ≡ false) undone (All-drop (Stands c offers ls k) a.stay q.standing b.stands) arrived.undone_after
 
-  back_moving : All (λ y. Known c offers y × After ls y) (sends_of undone)
+  back_moving : AllByRecursion (λ y. Known c offers y × After ls y) (sends_of undone)
   back_moving = all_flat (λ y. Known c offers y × After ls y) (λ (e : Event). e.sends) undone
-      (All-weaker (λ e. Stands c offers ls k e × (message_before e.message (inside i) ≡ false)) (λ e. All (λ y. Known c offers y × After ls y) e.sends)
+      (All-weaker (λ e. Stands c offers ls k e × (message_before e.message (inside i) ≡ false)) (λ e. AllByRecursion (λ y. Known c offers y × After ls y) e.sends)
       (λ e h. All-weaker (Sent c offers ls e.message) (λ y. Known c offers y × After ls y)
       (λ y g. (g.1, sent_after ls e.message y g.0 (waits_again e h).later)) e.sends h.0.sent_later)
       undone undone_are)

@@ -1,6 +1,6 @@
 -- The machine led by the messages that it takes, and what one more stimulus leaves of that.
 use Rattle.std.proofs.Common.{◌≡◌, ◌+◌, ◌≤◌, true, List, [], ◌∷◌, ◌++◌, length, Some, refl, ap, ◌∙◌, arith}
-use Rattle.std.specs.List.{AllByRecursion as All}
+use Rattle.std.specs.List.{AllByRecursion}
 use Rattle.rows.proofs.Sorted.{count_append}
 use Rattle.rows.specs.Rows.{least, without_one}
 use Rattle.bus.specs.Order.{message_before}
@@ -70,7 +70,7 @@ module _ (c : Setting) (s : Message) where
     );
   }
 
-  pub follow_besides : (m m' : Machine) (ls : List Message) → Besides s m m' → All (λ l. message_before l s ≡ true) ls → Takes c m ls →
+  pub follow_besides : (m m' : Machine) (ls : List Message) → Besides s m m' → AllByRecursion (λ l. message_before l s ≡ true) ls → Takes c m ls →
       Takes c m' ls × Besides s (follow c m ls) (follow c m' ls)
   follow_besides m m' [] b h t = (tt, b)
   follow_besides m m' (l ∷ ls) b h t =

@@ -1,6 +1,6 @@
 -- What every call keeps: the order of each board's rows, and the bounds of boards, transit and counters.
 use Rattle.std.proofs.Common.{◌≡◌, ℕ, zero, suc, ◌+◌, ◌-◌, ◌*◌, ◌<◌, ◌≤◌, Bool, true, false, cond, ◌&&◌, leb, List, [], ◌∷◌, ◌++◌, map, length, get_or, take, drop, set, sym, refl, ap, ◌∙◌, subst, inl, inr, arith}
-use Rattle.std.specs.List.{AllByRecursion as All}
+use Rattle.std.specs.List.{AllByRecursion}
 use Rattle.std.proofs.ByRecursion.{All-drop, All-push, All-take}
 use Rattle.std.proofs.lemmas.List.{length-append, length-drop, length-map, length-take}
 use Rattle.std.proofs.lemmas.Bool.{cases_Bool, leb-false}
@@ -41,7 +41,7 @@ record KeptBoard (runs : ℕ) (q : Queues) : Type 0 where
   early_ordered : Sorted q.early
   apart : Apart q
   places : room q ≤ 32
-  two_sends : All (λ (e : Event). length e.sends ≤ 2) q.standing
+  two_sends : AllByRecursion (λ (e : Event). length e.sends ≤ 2) q.standing
   numbers : issued q ≤ 2 * runs
 
 -- ---- one board

@@ -1,6 +1,6 @@
 -- The law of runs.
 use Rattle.std.proofs.Common.{◌≡◌, ℕ, ◌+◌, ◌<◌, List, [], ◌∷◌, map, length, get_or, sym, refl, ap, subst, inl, inr, arith}
-use Rattle.std.specs.List.{AllByRecursion as All}
+use Rattle.std.specs.List.{AllByRecursion}
 use Rattle.std.proofs.ByRecursion.{All-append, All-from_get_or, All-weaker}
 use Rattle.std.proofs.lemmas.Bool.{cases_lt}
 use Rattle.rows.proofs.Sorted.{count_append, count_cons}
@@ -26,15 +26,15 @@ use Rattle.model.proofs.StartTied.{start_tied}
 use Rattle.model.proofs.CallsTied.{AllKept, calls_kept}
 
 -- all that is outstanding is after the lines
-tied_later : (c : Setting) (m : Machine) (ls : List Message) (s : State) → Tied c m ls s → All (After ls) (outstanding s)
+tied_later : (c : Setting) (m : Machine) (ls : List Message) (s : State) → Tied c m ls s → AllByRecursion (After ls) (outstanding s)
 tied_later c m ls s t = All-append (After ls) (flat (map open_and_early s.boards)) (map inside s.transit)
-    (all_flat (After ls) open_and_early s.boards (All-from_get_or (λ (q : Queues). All (After ls) (open_and_early q)) s.boards no_queues each))
+    (all_flat (After ls) open_and_early s.boards (All-from_get_or (λ (q : Queues). AllByRecursion (After ls) (open_and_early q)) s.boards no_queues each))
     (All-weaker (λ x. Known c s.counters.offers x × After ls x) (After ls) (λ x h. h.1) (map inside s.transit) t.moving)
   where
-    later_ones : (k : ℕ) (ms : List Message) → All (Waits c s.counters.offers ls k) ms → All (After ls) ms
+    later_ones : (k : ℕ) (ms : List Message) → AllByRecursion (Waits c s.counters.offers ls k) ms → AllByRecursion (After ls) ms
     later_ones k ms a = All-weaker (Waits c s.counters.offers ls k) (After ls) (λ x h. h.later) ms a
 
-    each : (k : ℕ) → k < length s.boards → All (After ls) (open_and_early (at_board s k))
+    each : (k : ℕ) → k < length s.boards → AllByRecursion (After ls) (open_and_early (at_board s k))
     each k h = elim (cases_lt k (boards_of c)) [
       | inl g ↦ All-append (After ls) (at_board s k).open_ones (at_board s k).early
           (later_ones k (at_board s k).open_ones (t.board k g).opens) (later_ones k (at_board s k).early (t.board k g).earlies)

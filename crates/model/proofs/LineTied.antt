@@ -1,6 +1,6 @@
 -- The least standing message, if it is before all that is outstanding, is what the machine takes next; and to commit it keeps bench and machine tied.
 use Rattle.std.proofs.Common.{◌≡◌, ℕ, zero, suc, ◌+◌, ◌<◌, ◌≤◌, true, false, List, [], ◌∷◌, ◌++◌, map, length, get_or, drop, sym, refl, ap, ◌∙◌, subst, inl, inr, arith}
-use Rattle.std.specs.List.{AllByRecursion as All}
+use Rattle.std.specs.List.{AllByRecursion}
 use Rattle.std.proofs.ByRecursion.{All-append, All-from_get_or, All-map, All-weaker}
 use Rattle.std.proofs.lemmas.List.{append-nil, get_or-set_other, get_or-set_same, length-append, length-set}
 use Rattle.std.proofs.lemmas.Bool.{cases_Bool, cases_lt, true≢false}
@@ -28,7 +28,7 @@ use Rattle.model.proofs.Arrivals.{all_unmap, messages}
 use Rattle.model.proofs.LineByLine.{first_on}
 
 -- lists of lists
-all_part : {A B : Type 0} (P : A → Type 0) (f : B → List A) (qs : List B) (j : ℕ) (d : B) → j < length qs → All P (flat (map f qs)) → All P (f (get_or qs j d))
+all_part : {A B : Type 0} (P : A → Type 0) (f : B → List A) (qs : List B) (j : ℕ) (d : B) → j < length qs → AllByRecursion P (flat (map f qs)) → AllByRecursion P (f (get_or qs j d))
 all_part P f [] j d h a = absurd (omega arith)
 all_part P f (q ∷ qs) zero d h a = all_left P (f q) (flat (map f qs)) a
 all_part P f (q ∷ qs) (suc j) d h a = all_part P f qs j d (omega arith) (all_right P (f q) (flat (map f qs)) a)
@@ -55,19 +55,19 @@ count_parts x f g (q ∷ qs) = omega (
   count_append message_before x (g q) (flat (map g qs)),
 )
 
-all_signed : (P : Message → Type 0) (sign : Item → List Message) → ((i : Item) → P (inside i) → All P (sign i)) → (xs : List Item) → All P (map inside xs) → All P (flat (map sign xs))
-all_signed P sign f xs h = all_flat P sign xs (All-weaker (λ i. P (inside i)) (λ i. All P (sign i)) f xs (all_unmap P inside xs h))
+all_signed : (P : Message → Type 0) (sign : Item → List Message) → ((i : Item) → P (inside i) → AllByRecursion P (sign i)) → (xs : List Item) → AllByRecursion P (map inside xs) → AllByRecursion P (flat (map sign xs))
+all_signed P sign f xs h = all_flat P sign xs (All-weaker (λ i. P (inside i)) (λ i. AllByRecursion P (sign i)) f xs (all_unmap P inside xs h))
 
-in_plus : (P : Message → Type 0) (i : Item) → P (inside i) → All P (plus_in i)
+in_plus : (P : Message → Type 0) (i : Item) → P (inside i) → AllByRecursion P (plus_in i)
 in_plus P (Plus m) p = (p, tt)
 in_plus P (Minus m) p = tt
 
-in_minus : (P : Message → Type 0) (i : Item) → P (inside i) → All P (minus_in i)
+in_minus : (P : Message → Type 0) (i : Item) → P (inside i) → AllByRecursion P (minus_in i)
 in_minus P (Plus m) p = tt
 in_minus P (Minus m) p = (p, tt)
 
 -- x, which l is not before, stands in no list whose elements l is before
-none_later : (l x : Message) (xs : List Message) → All (λ y. message_before l y ≡ true) xs → message_before l x ≡ false → how_many x xs ≡ 0
+none_later : (l x : Message) (xs : List Message) → AllByRecursion (λ y. message_before l y ≡ true) xs → message_before l x ≡ false → how_many x xs ≡ 0
 none_later l x xs a h = none_of x xs (All-weaker (λ y. message_before l y ≡ true) (λ y. same message_before x y ≡ false) differ xs a)
   where
     differ : (y : Message) → message_before l y ≡ true → same message_before x y ≡ false
@@ -77,7 +77,7 @@ none_later l x xs a h = none_of x xs (All-weaker (λ y. message_before l y ≡ t
     ]
 
 -- the least that stands at a sorted board is the first
-pub first_stands : (l : Message) (es : List Event) → Sorted (messages es) → 1 ≤ how_many l (messages es) → All (λ y. message_before y l ≡ false) (messages es) →
+pub first_stands : (l : Message) (es : List Event) → Sorted (messages es) → 1 ≤ how_many l (messages es) → AllByRecursion (λ y. message_before y l ≡ false) (messages es) →
     (e : Event) × (rest : List Event) × (es ≡ e ∷ rest) × (e.message ≡ l)
 first_stands l [] o h u = absurd (omega arith)
 first_stands l (e ∷ es) o h u =
@@ -88,19 +88,19 @@ module _ (c : Setting) (offers : ℕ) (ls : List Message) (l : Message) (k : ℕ
   after_push : (m : Message) → After ls m → message_before l m ≡ true → After (ls ++ (l ∷ [])) m
   after_push m a h = All-append (λ l. message_before l m ≡ true) ls (l ∷ []) a (h, tt)
 
-  stands_line : (es : List Event) → All (Stands c offers ls k) es → All (λ y. message_before y l ≡ false) (messages es) → All (Stands c offers (ls ++ (l ∷ [])) k) es
+  stands_line : (es : List Event) → AllByRecursion (Stands c offers ls k) es → AllByRecursion (λ y. message_before y l ≡ false) (messages es) → AllByRecursion (Stands c offers (ls ++ (l ∷ [])) k) es
   stands_line [] a u = tt
   stands_line (e ∷ es) a u = (
     record { known = a.0.known; home = a.0.home; kept = All-append (λ l. message_before e.message l ≡ false) ls (l ∷ []) a.0.kept (u.0, tt); sent_later = a.0.sent_later },
     stands_line es a.1 u.1,
   )
 
-  waits_line : (ms : List Message) → All (Waits c offers ls k) ms → All (λ y. message_before l y ≡ true) ms → All (Waits c offers (ls ++ (l ∷ [])) k) ms
+  waits_line : (ms : List Message) → AllByRecursion (Waits c offers ls k) ms → AllByRecursion (λ y. message_before l y ≡ true) ms → AllByRecursion (Waits c offers (ls ++ (l ∷ [])) k) ms
   waits_line [] a u = tt
   waits_line (m ∷ ms) a u = (record { known = a.0.known; home = a.0.home; later = after_push m a.0.later u.0 }, waits_line ms a.1 u.1)
 
   board_line : (w : Words) (n : ℕ) (q : Queues) (row : Row) → Board c offers ls k w n q row →
-      All (λ y. message_before y l ≡ false) (standing_of q) → All (λ y. message_before l y ≡ true) (q.open_ones ++ q.early) → Board c offers (ls ++ (l ∷ [])) k w n q row
+      AllByRecursion (λ y. message_before y l ≡ false) (standing_of q) → AllByRecursion (λ y. message_before l y ≡ true) (q.open_ones ++ q.early) → Board c offers (ls ++ (l ∷ [])) k w n q row
   board_line w n q row b u v = record {
     sent_is = b.sent_is;
     chain = b.chain;
@@ -150,7 +150,7 @@ module _ (c : Setting) (offers : ℕ) (ls : List Message) (k : ℕ) (w : Words) 
     kept = b.stands.0.kept;
   }
 
-  shed_least : (q : Queues) (row : Row) (l : Message) → Board c offers ls k w n q row → 1 ≤ how_many l (standing_of q) → All (λ y. message_before y l ≡ false) (standing_of q) →
+  shed_least : (q : Queues) (row : Row) (l : Message) → Board c offers ls k w n q row → 1 ≤ how_many l (standing_of q) → AllByRecursion (λ y. message_before y l ≡ false) (standing_of q) →
       ShedOne c offers ls k w n q row l
   shed_least q row l b h u =
       let f = first_stands l q.standing (sorted_left (standing_of q) q.open_ones b.ordered) h u in
@@ -160,7 +160,7 @@ module _ (c : Setting) (offers : ℕ) (ls : List Message) (k : ℕ) (w : Words) 
       (shed_first q row f.0 f.1 (subst (λ (x : Queues). Board c offers ls k w n x row) q-is b)))
 
 module _ (c : Setting) (m : Machine) (ls : List Message) (s : State) (t : Tied c m ls s) (l : Message)
-    (low : Lowest l (standing s)) (final : All (λ y. message_before l y ≡ true) (outstanding s)) where
+    (low : Lowest l (standing s)) (final : AllByRecursion (λ y. message_before l y ≡ true) (outstanding s)) where
   abbrev queue : ℕ → Queues
   queue j = at_board s j
 
@@ -168,35 +168,35 @@ module _ (c : Setting) (m : Machine) (ls : List Message) (s : State) (t : Tied c
   in_eight j h = omega (arith, t.eight)
 
   -- l is before all that is open, early or in transit, and nothing standing is before l
-  waiting : (j : ℕ) → j < boards_of c → All (λ y. message_before l y ≡ true) ((queue j).open_ones ++ (queue j).early)
+  waiting : (j : ℕ) → j < boards_of c → AllByRecursion (λ y. message_before l y ≡ true) ((queue j).open_ones ++ (queue j).early)
   waiting j h = all_part (λ y. message_before l y ≡ true) open_and_early s.boards j no_queues (in_eight j h)
       (all_left (λ y. message_before l y ≡ true) (flat (map open_and_early s.boards)) (map inside s.transit) final)
 
-  travelling : All (λ y. message_before l y ≡ true) (map inside s.transit)
+  travelling : AllByRecursion (λ y. message_before l y ≡ true) (map inside s.transit)
   travelling = all_right (λ y. message_before l y ≡ true) (flat (map open_and_early s.boards)) (map inside s.transit) final
 
-  pub standing_upto : (j : ℕ) → j < boards_of c → All (λ y. message_before y l ≡ false) (standing_of (queue j))
+  pub standing_upto : (j : ℕ) → j < boards_of c → AllByRecursion (λ y. message_before y l ≡ false) (standing_of (queue j))
   standing_upto j h = all_part (λ y. message_before y l ≡ false) standing_of s.boards j no_queues (in_eight j h) (least_upto (standing s) l low)
 
   -- what holds at the boards of the rack and of nothing holds at all eight
-  at_all : (f : Queues → List Message) → f no_queues ≡ [] → ((j : ℕ) → j < boards_of c → All (λ y. message_before l y ≡ true) (f (queue j))) →
-      All (λ y. message_before l y ≡ true) (flat (map f s.boards))
-  at_all f e h = all_flat (λ y. message_before l y ≡ true) f s.boards (All-from_get_or (λ q. All (λ y. message_before l y ≡ true) (f q)) s.boards no_queues each)
+  at_all : (f : Queues → List Message) → f no_queues ≡ [] → ((j : ℕ) → j < boards_of c → AllByRecursion (λ y. message_before l y ≡ true) (f (queue j))) →
+      AllByRecursion (λ y. message_before l y ≡ true) (flat (map f s.boards))
+  at_all f e h = all_flat (λ y. message_before l y ≡ true) f s.boards (All-from_get_or (λ q. AllByRecursion (λ y. message_before l y ≡ true) (f q)) s.boards no_queues each)
     where
-      each : (j : ℕ) → j < length s.boards → All (λ y. message_before l y ≡ true) (f (queue j))
+      each : (j : ℕ) → j < length s.boards → AllByRecursion (λ y. message_before l y ≡ true) (f (queue j))
       each j k = elim (cases_lt j (boards_of c)) [
         | inl g ↦ h j g
         | inr g ↦ rw (t.idle j g, e) tt
       ]
 
   -- nothing that stands sent l, or anything before it
-  sent_later_than : (j : ℕ) → j < boards_of c → All (λ y. message_before l y ≡ true) (credit (queue j))
+  sent_later_than : (j : ℕ) → j < boards_of c → AllByRecursion (λ y. message_before l y ≡ true) (credit (queue j))
   sent_later_than j h = All-append (λ y. message_before l y ≡ true) (sends_of (queue j).standing) (queue j).early
       (all_flat (λ y. message_before l y ≡ true) (λ (e : Event). e.sends) (queue j).standing
       (sends_all (queue j).standing (t.board j h).stands (standing_upto j h)))
       (all_right (λ y. message_before l y ≡ true) (queue j).open_ones (queue j).early (waiting j h))
     where
-      sends_all : (es : List Event) → All (Stands c s.counters.offers ls j) es → All (λ y. message_before y l ≡ false) (messages es) → All (λ (e : Event). All (λ y. message_before l y ≡ true) e.sends) es
+      sends_all : (es : List Event) → AllByRecursion (Stands c s.counters.offers ls j) es → AllByRecursion (λ y. message_before y l ≡ false) (messages es) → AllByRecursion (λ (e : Event). AllByRecursion (λ y. message_before l y ≡ true) e.sends) es
       sends_all [] a u = tt
       sends_all (e ∷ es) a u = (
         All-weaker (Sent c s.counters.offers ls e.message) (λ y. message_before l y ≡ true) (λ y g. upto_before l e.message y u.0 (later e.message y g.0)) e.sends a.0.sent_later,
@@ -264,14 +264,14 @@ module _ (c : Setting) (m : Machine) (ls : List Message) (s : State) (t : Tied c
       j (λ d. rw (get_or-set_other m.words k j (reaction c m l).words zeros d, get_or-set_other m.sent k j (get_or m.sent k 0 + length (sending c m l)) 0 d) (lined j h))
 
   -- after l the times are no more than that of l
-  past_line : All (λ x. Known c s.counters.offers x × (x.time ≤ l.time)) lines
+  past_line : AllByRecursion (λ x. Known c s.counters.offers x × (x.time ≤ l.time)) lines
   past_line = All-append (λ x. Known c s.counters.offers x × (x.time ≤ l.time)) ls (l ∷ []) (older ls t.past (all_left (λ x. message_before l x ≡ false) ls (l ∷ []) shed_here.kept)) ((shed_here.known, omega arith), tt)
     where
-      older : (xs : List Message) → All (λ x. Known c s.counters.offers x × (x.time ≤ line_time s.last)) xs → All (λ x. message_before l x ≡ false) xs → All (λ x. Known c s.counters.offers x × (x.time ≤ l.time)) xs
+      older : (xs : List Message) → AllByRecursion (λ x. Known c s.counters.offers x × (x.time ≤ line_time s.last)) xs → AllByRecursion (λ x. message_before l x ≡ false) xs → AllByRecursion (λ x. Known c s.counters.offers x × (x.time ≤ l.time)) xs
       older [] a u = tt
       older (x ∷ xs) a u = ((a.0.0, time_upto x l u.0), older xs a.1 u.1)
 
-  moving_line : (xs : List Message) → All (λ x. Known c s.counters.offers x × After ls x) xs → All (λ y. message_before l y ≡ true) xs → All (λ x. Known c s.counters.offers x × After lines x) xs
+  moving_line : (xs : List Message) → AllByRecursion (λ x. Known c s.counters.offers x × After ls x) xs → AllByRecursion (λ y. message_before l y ≡ true) xs → AllByRecursion (λ x. Known c s.counters.offers x × After lines x) xs
   moving_line [] a u = tt
   moving_line (x ∷ xs) a u = ((a.0.0, after_push c s.counters.offers ls l k x a.0.1 u.0), moving_line xs a.1 u.1)
 

@@ -1,6 +1,6 @@
 -- A run of a board keeps bench and machine tied.
 use Rattle.std.proofs.Common.{◌≡◌, ℕ, ◌+◌, ◌<◌, true, false, List, [], ◌∷◌, ◌++◌, map, length, get_or, sym, refl, ap, ◌∙◌, subst, arith}
-use Rattle.std.specs.List.{AllByRecursion as All}
+use Rattle.std.specs.List.{AllByRecursion}
 use Rattle.std.proofs.ByRecursion.{All-append, All-weaker}
 use Rattle.std.proofs.lemmas.List.{append_assoc, length-append, map-append}
 use Rattle.rows.proofs.Sorted.{count_append}
@@ -49,10 +49,10 @@ module _ (c : Setting) (offers : ℕ) (ls : List Message) (k : ℕ) (w : Words) 
   first_waits : Waits c offers ls k x
   first_waits = (rw e at b.opens).0
 
-  out_sent : All (Sent c offers ls x) (out c k q row x)
+  out_sent : AllByRecursion (Sent c offers ls x) (out c k q row x)
   out_sent = addressed_sent c offers k x.time (issued q) (listed (rule_of c k (newest row) x).sends) kb
 
-  out_moving : All (λ y. Known c offers y × After ls y) (out c k q row x)
+  out_moving : AllByRecursion (λ y. Known c offers y × After ls y) (out c k q row x)
   out_moving = All-weaker (Sent c offers ls x) (λ y. Known c offers y × After ls y) (λ y h. (h.1, sent_after ls x y h.0 first_waits.later)) (out c k q row x) out_sent
 
   ran_board : Board c offers ls k w n (stood q x rest (out c k q row x)) (row ++ ((rule_of c k (newest row) x).words ∷ []))

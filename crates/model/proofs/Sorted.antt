@@ -1,6 +1,6 @@
 -- Sorted rows of messages: none is before one that stands in front of it.
 use Rattle.std.proofs.Common.{◌≡◌, true, false, not, List, [], ◌∷◌, ◌++◌, refl, inl, inr, arith}
-use Rattle.std.specs.List.{AllByRecursion as All}
+use Rattle.std.specs.List.{AllByRecursion}
 use Rattle.std.proofs.ByRecursion.{All-append}
 use Rattle.std.proofs.lemmas.Bool.{and_from, and_parts, cases_Bool, not_from_false, not-true}
 use Rattle.rows.proofs.Sorted.{count_cons, count_insert, insert_sorted}
@@ -13,14 +13,14 @@ use Rattle.model.proofs.Counts.{all_insert, all_left, all_right, all_without, ho
 
 abbrev pub Sorted : List Message → Type 0
 Sorted [] = Unit {0}
-Sorted (m ∷ ms) = All (λ x. message_before x m ≡ false) ms × Sorted ms
+Sorted (m ∷ ms) = AllByRecursion (λ x. message_before x m ≡ false) ms × Sorted ms
 
 -- what `sorted` tests
-none_true : (m : Message) (ms : List Message) → All (λ x. message_before x m ≡ false) ms → none_before message_before m ms ≡ true
+none_true : (m : Message) (ms : List Message) → AllByRecursion (λ x. message_before x m ≡ false) ms → none_before message_before m ms ≡ true
 none_true m [] a = refl
 none_true m (x ∷ xs) a = and_from _ _ (not_from_false _ a.0) (none_true m xs a.1)
 
-true_none : (m : Message) (ms : List Message) → none_before message_before m ms ≡ true → All (λ x. message_before x m ≡ false) ms
+true_none : (m : Message) (ms : List Message) → none_before message_before m ms ≡ true → AllByRecursion (λ x. message_before x m ≡ false) ms
 true_none m [] h = tt
 true_none m (x ∷ xs) h = let p = and_parts (not (message_before x m)) (none_before message_before m xs) h in (not-true _ p.0, true_none m xs p.1)
 
@@ -51,7 +51,7 @@ sorted_right [] ys s = s
 sorted_right (x ∷ xs) ys s = sorted_right xs ys s.1
 
 -- the same behind a front
-pub sorted_insert_behind : (m : Message) (xs ys : List Message) → All (λ x. message_before m x ≡ false) xs → Sorted (xs ++ ys) → Sorted (xs ++ insert message_before m ys)
+pub sorted_insert_behind : (m : Message) (xs ys : List Message) → AllByRecursion (λ x. message_before m x ≡ false) xs → Sorted (xs ++ ys) → Sorted (xs ++ insert message_before m ys)
 sorted_insert_behind m [] ys h s = sorted_insert m ys s
 sorted_insert_behind m (x ∷ xs) ys h s = (
   All-append (λ y. message_before y x ≡ false) xs (insert message_before m ys) (all_left (λ y. message_before y x ≡ false) xs ys s.0)

@@ -1,6 +1,6 @@
 -- What ties a running bench to the sequential machine, and what a change at one board leaves of that.
 use Rattle.std.proofs.Common.{◌≡◌, ℕ, ◌+◌, ◌<◌, ◌≤◌, true, false, ◌⊎◌, List, [], ◌∷◌, ◌++◌, map, length, get_or, set, ◌∙◌, inl, inr, arith}
-use Rattle.std.specs.List.{AllByRecursion as All}
+use Rattle.std.specs.List.{AllByRecursion}
 use Rattle.std.proofs.ByRecursion.{All-weaker}
 use Rattle.std.proofs.lemmas.List.{get_or-set_other, get_or-set_same, length-append, length-set}
 use Rattle.std.proofs.lemmas.Bool.{cases_eq}
@@ -47,10 +47,10 @@ abbrev pub Known : Setting → ℕ → Message → Type 0
 Known c offers m = (m.destination < boards_of c) × ((m.source < outside) ⊎ ((m.source ≡ outside) × (m.number < offers)))
 
 abbrev pub After : List Message → Message → Type 0
-After ls m = All (λ l. message_before l m ≡ true) ls
+After ls m = AllByRecursion (λ l. message_before l m ≡ true) ls
 
 abbrev pub Upto : List Message → Message → Type 0
-Upto ls m = All (λ l. message_before m l ≡ false) ls
+Upto ls m = AllByRecursion (λ l. message_before m l ≡ false) ls
 
 -- what is sent after a cause is after the lines too
 pub sent_after : (ls : List Message) (m x : Message) → m.time < x.time → After ls m → After ls x
@@ -72,7 +72,7 @@ module _ (c : Setting) (offers : ℕ) (ls : List Message) where
     pub known : Known c offers e.message
     pub home : e.message.destination ≡ k
     pub kept : Upto ls e.message
-    pub sent_later : All (Sent e.message) e.sends
+    pub sent_later : AllByRecursion (Sent e.message) e.sends
 
   pub record Waits (k : ℕ) (m : Message) : Type 0 where
     pub known : Known c offers m
@@ -83,9 +83,9 @@ module _ (c : Setting) (offers : ℕ) (ls : List Message) where
     pub sent_is : q.sent ≡ n
     pub chain : Chain c k w n q.standing row
     pub ordered : Sorted (debit q)
-    pub stands : All (Stands k) q.standing
-    pub opens : All (Waits k) q.open_ones
-    pub earlies : All (Waits k) q.early
+    pub stands : AllByRecursion (Stands k) q.standing
+    pub opens : AllByRecursion (Waits k) q.open_ones
+    pub earlies : AllByRecursion (Waits k) q.early
 
 -- the bench s, with the lines ls behind it, and the machine m
 pub record Tied (c : Setting) (m : Machine) (ls : List Message) (s : State) : Type 0 where
@@ -96,11 +96,11 @@ pub record Tied (c : Setting) (m : Machine) (ls : List Message) (s : State) : Ty
   pub logged : m.log ≡ ls
   pub board : (k : ℕ) → k < boards_of c → Board c s.counters.offers ls k (get_or m.words k zeros) (get_or m.sent k 0) (at_board s k) (row_at s k)
   pub idle : (k : ℕ) → boards_of c ≤ k → at_board s k ≡ no_queues
-  pub moving : All (λ x. Known c s.counters.offers x × After ls x) (map inside s.transit)
+  pub moving : AllByRecursion (λ x. Known c s.counters.offers x × After ls x) (map inside s.transit)
   pub balance : (x : Message) →
       how_many x m.pending + how_many x (flat (map credit s.boards)) + how_many x (minuses s.transit)
       ≡ how_many x (pluses s.transit) + how_many x (flat (map debit s.boards))
-  pub past : All (λ l. Known c s.counters.offers l × (l.time ≤ line_time s.last)) ls
+  pub past : AllByRecursion (λ l. Known c s.counters.offers l × (l.time ≤ line_time s.last)) ls
   pub runs_are : s.counters.runs ≡ length ls + length (standing s) + s.counters.undone
   pub committed_are : s.counters.committed ≡ length ls
 
@@ -122,7 +122,7 @@ module _ (c : Setting) (m : Machine) (ls : List Message) (s : State) (t : Tied c
 
   pub change : (q' : Queues) (row' : Row) (transit' : List Item) (runs' undone' : ℕ) →
       Board c s.counters.offers ls k (get_or m.words k zeros) (get_or m.sent k 0) q' row' →
-      All (λ x. Known c s.counters.offers x × After ls x) (map inside transit') →
+      AllByRecursion (λ x. Known c s.counters.offers x × After ls x) (map inside transit') →
       ((x : Message) → how_many x (credit q') + how_many x (minuses transit') + how_many x (pluses s.transit) + how_many x (debit (at_board s k))
       ≡ how_many x (credit (at_board s k)) + how_many x (minuses s.transit) + how_many x (pluses transit') + how_many x (debit q')) →
       runs' + length (standing_of (at_board s k)) + s.counters.undone ≡ s.counters.runs + length (standing_of q') + undone' →

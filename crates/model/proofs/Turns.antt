@@ -1,6 +1,6 @@
 -- On a bench that calls lead to, the lines written one by one are those of a commit.
 use Rattle.std.proofs.Common.{◌≡◌, ℕ, zero, suc, ◌+◌, ◌-◌, ◌<◌, ◌≤◌, false, leb, List, [], ◌∷◌, ◌++◌, map, length, get_or, take, drop, set, Some, None, Option, sym, refl, ap, ◌∙◌, subst, inl, inr, arith}
-use Rattle.std.specs.List.{AllByRecursion as All}
+use Rattle.std.specs.List.{AllByRecursion}
 use Rattle.std.proofs.lemmas.Bool.{cases_Bool, cases_lt, cond-true, le-leb}
 use Rattle.rows.proofs.Sorted.{count_append, count_cons}
 use Rattle.rows.specs.Rows.{least}
@@ -68,7 +68,7 @@ part_counts x f [] j d h = absurd (omega arith)
 part_counts x f (q ∷ qs) zero d h = omega (arith, count_append message_before x (f q) (flat (map f qs)))
 part_counts x f (q ∷ qs) (suc j) d h = omega (arith, part_counts x f qs j d (omega arith), count_append message_before x (f q) (flat (map f qs)))
 
-first_home : (c : Setting) (offers : ℕ) (ls : List Message) (k : ℕ) (es : List Event) (x : Message) → All (Stands c offers ls k) es → first_event es ≡ Some x → x.destination ≡ k
+first_home : (c : Setting) (offers : ℕ) (ls : List Message) (k : ℕ) (es : List Event) (x : Message) → AllByRecursion (Stands c offers ls k) es → first_event es ≡ Some x → x.destination ≡ k
 first_home c offers ls k [] x a d = absurd (never x d)
 first_home c offers ls k (e ∷ es) x a d = subst (λ (y : Message). y.destination ≡ k) (same_some e.message x d) a.0.home
 

@@ -1,6 +1,6 @@
 -- What every bench keeps to which a set-up and calls lead: its rows are in order, and it stays in its bounds.
 use Rattle.std.specs.Prelude.{◌≡◌, ℕ, ◌*◌, ◌≤◌, true, ◌⊎◌, List, ◌++◌, length}
-use Rattle.std.specs.List.{AllByRecursion as All}
+use Rattle.std.specs.List.{AllByRecursion}
 use Rattle.rows.specs.Rows.{sorted, count_of}
 use Rattle.bus.specs.declared.Message.{Message}
 use Rattle.bus.specs.Order.{message_before}
@@ -25,7 +25,7 @@ ReachedBenchesKeepTheirRowsInOrder = (c : Setting) (s : State) → Reached c s �
 pub record InBounds (s : State) : Type 0 where
   pub a_board_holds_32_at_most : (k : ℕ) → room (at_board s k) ≤ 32
   pub transit_holds_128_at_most : length s.transit ≤ 128
-  pub an_event_sends_two_at_most : (k : ℕ) → All (λ (e : Event). length e.sends ≤ 2) (at_board s k).standing
+  pub an_event_sends_two_at_most : (k : ℕ) → AllByRecursion (λ (e : Event). length e.sends ≤ 2) (at_board s k).standing
   pub a_board_issues_two_a_run_at_most : (k : ℕ) → issued (at_board s k) ≤ 2 * s.counters.runs
   pub runs_are_a_billion_at_most : s.counters.runs ≤ 1000000000
   pub offers_are_65536_at_most : s.counters.offers ≤ 65536

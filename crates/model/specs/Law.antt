@@ -1,6 +1,6 @@
 -- The law of runs: whatever calls a started bench gets, what it has committed is what the sequential machine logs.
 use Rattle.std.specs.Prelude.{◌≡◌, ℕ, ◌+◌, ◌<◌, true, List, [], ◌∷◌, length, slice_index, slice_index_or}
-use Rattle.std.specs.List.{AllByRecursion as All}
+use Rattle.std.specs.List.{AllByRecursion}
 use Rattle.bus.specs.declared.Message.{Message}
 use Rattle.bus.specs.declared.Words.{Words}
 use Rattle.bus.specs.Order.{message_before}
@@ -47,7 +47,7 @@ module _ (c : Setting) (starts : List Words) (rows : List Row) (calls : List Cal
 
   pub record Lawful : Type 0 where
     pub committed_lines_are_the_sequential_log : log ≡ machine.log
-    pub outstanding_comes_after_every_line : All (λ m. All (λ l. message_before l m ≡ true) log) (outstanding bench)
+    pub outstanding_comes_after_every_line : AllByRecursion (λ m. AllByRecursion (λ l. message_before l m ≡ true) log) (outstanding bench)
     pub nothing_left_is_nothing_pending : outstanding bench ≡ [] → standing bench ≡ [] → machine.pending ≡ []
     pub runs_are_committed_standing_or_undone : total runs_of told ≡ length log + length (standing bench) + total undone_of told
     pub counters_tell_runs_lines_and_undone : (bench.counters.runs ≡ total runs_of told) × (bench.counters.committed ≡ length log) × (bench.counters.undone ≡ total undone_of told)

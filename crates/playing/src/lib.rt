@@ -20,8 +20,7 @@ mod tests;
 
 // Adds what is told of the run of a schedule.
 fn add_schedule(heap: Global, text: &mut String, schedule: &Schedule) -> Result<(), NoMemory>
-    ensures { let schedule = schedule.entry.now in
-        OnOk result (string_bytes text.new ≡ string_bytes text.old ++ run_text schedule.end (map asked schedule.calls.items)) }
+    ensures { OnOk result (string_bytes text.new ≡ string_bytes text.old ++ run_text schedule.now.end (map asked schedule.now.calls.items)) }
 {
     let calls = bench_calls(heap, schedule.calls.as_slice())?;
     let run = run_calls(heap, schedule.end, calls.as_slice())?;
@@ -30,6 +29,7 @@ fn add_schedule(heap: Global, text: &mut String, schedule: &Schedule) -> Result<
 }
 
 // The whole text that is printed of a file. For a sound one, the lines that it tells are those of the sequential machine.
+#[tactic(auto, using(crate::proofs::FareRuns::lawful_runs))]
 pub fn play(heap: Global, bytes: &[u8]) -> Result<String, NoMemory>
     ensures tells_the_run_or_the_fault { IfOk result (λ text. string_bytes text ≡ play_text bytes.now) }
     ensures lines_are_the_sequential_log { LinesAreTheSequentialLog bytes.now }

@@ -60,7 +60,7 @@ pub(crate) fn add_outcomes(
 
 // Adds what is told of a run: its outcomes, and then its totals.
 pub(crate) fn add_run(text: &mut String, run: &Run) -> Result<(), NoMemory>
-    ensures { let run = run.entry.now in
+    ensures { let run = run.now in
         OnOk result (string_bytes text.new ≡ string_bytes text.old ++ outcomes_text 0 run.outcomes.items run.log.items ++ totals_line run.totals.committed run.totals.standing run.totals.undone) }
 {
     add_outcomes(text, run.outcomes.as_slice(), run.log.as_slice())?;

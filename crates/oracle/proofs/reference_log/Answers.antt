@@ -9,8 +9,8 @@ add_run-requires c =
     let few = few_calls c.args.bytes.now c.in-Ok.ensures.reads_the_layout c.in-Ok.schedule.end (vec_items c.in-Ok.schedule.calls) c.in-Ok.ensures.answers_the_reading in
     omega (arith, few, ap length c.as_slice.ensures.value)
 
-pub returns-in_err-add_run : goal.returns-in_err-add_run
-returns-in_err-add_run c = record {
+pub returns-in_err-add_run-in-Ok : goal.returns-in_err-add_run-in-Ok
+returns-in_err-add_run-in-Ok c = record {
   text_is_the_reference = search rules;
   log_is_lawful = log_is_lawful c.args.bytes.now;
   nothing_comes_after_the_end = nothing_comes_after_the_end c.args.bytes.now;

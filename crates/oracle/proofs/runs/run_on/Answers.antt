@@ -8,7 +8,7 @@ use Rattle.oracle.proofs.runs.run_on.Goals as goal
 
 pub returns-in_err-extend_from_slice : goal.returns-in_err-extend_from_slice
 returns-in_err-extend_from_slice c =
-    let p = err_from_is_err_and c.from-residual-in_err-extend_from_slice.result c.from-residual-in_err-extend_from_slice.ensures.1 in
+    let p = err_from_is_err_and c.from_residual-in_err-extend_from_slice.result c.from_residual-in_err-extend_from_slice.ensures.1 in
     rw p.1 tt
 
 pub returns : goal.returns
