@@ -24,7 +24,6 @@ use Rattle.model.proofs.Performed.{delivered_on, offered_on, performed}
 use Rattle.model.proofs.RunTied.{run_tied}
 use Rattle.model.proofs.DeliverTied.{deliver_tied}
 use Rattle.model.proofs.OfferTied.{offer_after, offer_tied}
-use Rattle.model.proofs.LineTied.{place}
 use Rattle.model.proofs.CommitTied.{commit_tied}
 
 module _ (c : Setting) (starts : List Words) where

@@ -4,7 +4,7 @@ use Rattle.rows.specs.Rows.{sorted}
 use Rattle.bus.specs.Order.{message_before}
 use Rattle.model.specs.declared.item.Item.TheVariants.{Plus, Minus}
 use Rattle.model.specs.State.{Event, Queues}
-use Rattle.model.specs.Deliver.{Arrival, arrive, has, with_open}
+use Rattle.model.specs.Deliver.{arrive, has, with_open}
 use Rattle.model.specs.Kept.{in_row}
 
 -- a board on which e stands last, and whose message is neither open nor early

@@ -1,5 +1,5 @@
 -- Commit: the first final messages become lines of the log.
-use Rattle.std.specs.Prelude.{ℕ, ◌+◌, Bool, true, cond, List, [], ◌∷◌, ◌++◌, length, take, drop, Some, None, Option, nat_eq}
+use Rattle.std.specs.Prelude.{ℕ, ◌+◌, Bool, true, cond, List, [], ◌∷◌, length, take, drop, Some, None, Option, nat_eq}
 use Rattle.rows.specs.Rows.{insert}
 use Rattle.bus.specs.declared.Message.{Message}
 use Rattle.bus.specs.Order.{message_before}

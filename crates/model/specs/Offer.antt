@@ -1,5 +1,5 @@
 -- Offer: a stimulus joins transit.
-use Rattle.std.specs.Prelude.{ℕ, cond, List, [], ◌∷◌, ◌++◌, length, Some, None, Option, nat_le, nat_lt}
+use Rattle.std.specs.Prelude.{ℕ, cond, [], ◌∷◌, ◌++◌, length, Some, None, Option, nat_le, nat_lt}
 use Rattle.bus.specs.declared.Message.{Message}
 use Rattle.bus.specs.Kinds.{outside}
 use Rattle.addressing.specs.Settings.{Setting, boards_of}

@@ -1,5 +1,5 @@
 -- Answers as outcomes: a commit's outcome has the number of its lines, which stand in memory.
-use Rattle.std.specs.Prelude.{ℕ, List, length}
+use Rattle.std.specs.Prelude.{ℕ, length}
 use Rattle.model.specs.declared.outcome.Outcome.{Outcome}
 use Rattle.model.specs.declared.outcome.Outcome.TheVariants.{Offered, Delivered, Ran, Looked, Committed, Refused}
 use Rattle.model.specs.State.{Answer, refused, offered, delivered, ran, looked, committed}

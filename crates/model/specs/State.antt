@@ -1,5 +1,5 @@
 -- The state of a running bench, and its changes.
-use Rattle.std.specs.Prelude.{ℕ, ◌+◌, List, [], ◌∷◌, ◌++◌, map, length, replicate, Some, None, Option, slice_index_or, slice_set}
+use Rattle.std.specs.Prelude.{ℕ, ◌+◌, List, [], ◌∷◌, ◌++◌, map, length, replicate, None, Option, slice_index_or, slice_set}
 use Rattle.bus.specs.declared.Message.{Message}
 use Rattle.savers.specs.Rows.{Row}
 use Rattle.model.specs.declared.item.Item.{Item}

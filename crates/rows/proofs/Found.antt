@@ -1,5 +1,5 @@
 -- What the answer of a search for an equal record tells. Assumes nothing.
-use Rattle.std.proofs.Common.{◌≡◌, ℕ, suc, ◌+◌, ◌<◌, ◌≤◌, Bool, true, false, cond, not, ◌⊎◌, List, [], ◌∷◌, length, get_or, Some, None, Option, sym, refl, ap, ◌∙◌, subst, inl, inr, ⊎_elim, arith}
+use Rattle.std.proofs.Common.{◌≡◌, ℕ, suc, ◌+◌, ◌<◌, ◌≤◌, Bool, true, false, cond, not, List, [], ◌∷◌, length, get_or, Some, None, Option, sym, refl, ap, ◌∙◌, subst, inl, inr, ⊎_elim, arith}
 use Rattle.std.proofs.lemmas.Bool.{and_parts, and_left, not-true, not_from_true, cases_Bool, cases_lt, cond-true, cond-false}
 use Rattle.rows.specs.Order.{Total, same}
 use Rattle.rows.specs.Rows.{first_at, first_of, last_of, later_or, count_of, none_before, sorted, without, without_one}

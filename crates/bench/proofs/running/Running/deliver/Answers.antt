@@ -1,5 +1,5 @@
 -- A delivery that passes all tests is the rule's, and the counts stay in bounds.
-use Rattle.std.proofs.Common.{◌≡◌, ◌+◌, ◌-◌, ◌*◌, ◌≤◌, false, map, length, get_or, set, sym, refl, ap, ◌∙◌, arith, length-take}
+use Rattle.std.proofs.Common.{◌≡◌, ◌+◌, ◌*◌, ◌≤◌, false, map, length, get_or, set, sym, refl, ap, ◌∙◌, arith, length-take}
 use Rattle.std.proofs.lemmas.List.{length-set, length-map, map-set, set_past, get_or_past}
 use Rattle.model.specs.State.{Queues, no_queues, issued}
 use Rattle.model.specs.Deliver.{arrive}
