@@ -1,7 +1,7 @@
 //! Tells cargo where the verified static library is, if VERIFIED_LIB_DIR names its folder.
 //!
 //! VERIFIED_LIB is the library's name without `lib` and `.a`; it is `playing_c` if not given.
-//! RATTLE_LIB_DIR is the folder of the kit's librattle_c.a.
+//! RATTLE_LIB_DIR is the folder of the kit's liblibc_c.a and libos_c.a.
 //! With no VERIFIED_LIB_DIR the package builds alone, and `verified::LINKED` is false.
 
 use std::env;
@@ -32,6 +32,7 @@ fn main() {
     // The kit's own C code, through which the library allocates.
     if let Ok(kit) = env::var("RATTLE_LIB_DIR") {
         println!("cargo::rustc-link-search=native={kit}");
-        println!("cargo::rustc-link-lib=static=rattle_c");
+        println!("cargo::rustc-link-lib=static=os_c");
+        println!("cargo::rustc-link-lib=static=libc_c");
     }
 }

@@ -13,7 +13,7 @@ import re
 import sys
 
 WORD = re.compile(r'[^\s(){}.;,@"«»`⟨⟩\[\]:]+')
-DECLARED = re.compile(r'^ *(?:abbrev |pub |inductive |mutual |ghost )*(?:record |data )?([^\s(){}.;,@"«»:]+)(?: [^:=\n]*?)? :(?: |$)')
+DECLARED = re.compile(r'^ *(?:abbrev |unfoldable |pub |inductive |mutual |ghost )*(?:record |data )?([^\s(){}.;,@"«»:]+)(?: [^:=\n]*?)? :(?: |$)')
 QUIET = re.compile(r'"(?:[^"\\\n]|\\.)*"|--[^\n]*|//[^\n]*')
 SPAN = re.compile(r'`[^`\n]+`')
 HEADS = {"goal", "given", "c", "w", "l", "need"}

@@ -9,11 +9,11 @@ use Rattle.sequential.specs.declared.outcome.Ended.{Ended}
 use Rattle.sequential.specs.Sequential.{Machine}
 use Rattle.sequential.specs.Runs.{ran, most_lines, next_in}
 use Rattle.fare_rack.specs.FareRacks.{fare_rules}
-use Rattle.oracle.specs.Machines.{longest-log, starts, machine_on}
+use Rattle.oracle.specs.Machines.{longest_log, starts, machine_on}
 use Rattle.oracle.proofs.Reached.{reached}
 
-longest_is : longest-log ≡ 65536
-unfolding longest-log
+longest_is : longest_log ≡ 65536
+unfolding longest_log
 longest_is = refl
 
 module _ (end : ℕ) (stimuli log pending : List Message) (count n : ℕ) where
@@ -28,7 +28,7 @@ module _ (end : ℕ) (stimuli log pending : List Message) (count n : ℕ) where
   whole_run log' left why laid counted long kept wrote lined waits ended =
       let given : take count pending ≡ stimuli =
       ap (take count) laid ∙ take-append-le count stimuli log (omega arith) ∙ take_all count stimuli (omega arith) in
-      let lines : most_lines (length log) ≡ longest-log = omega (arith, longest_is) in
+      let lines : most_lines (length log) ≡ longest_log = omega (arith, longest_is) in
       let room = length-append stimuli log in
       let written = length-append (at n).log (drop (length (at n).log) log) in
       let there : at n ≡ machine_on end stimuli =

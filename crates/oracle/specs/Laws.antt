@@ -4,7 +4,7 @@ use Rattle.schedule.specs.declared.call.Call.{Call}
 use Rattle.schedule.specs.Reading.{reading}
 use Rattle.sequential.specs.Laws.{after, LawfulLog}
 use Rattle.oracle.specs.Offers.{stimuli_from}
-use Rattle.oracle.specs.Machines.{longest-log, setting, starts, machine_on}
+use Rattle.oracle.specs.Machines.{longest_log, setting, starts, machine_on}
 
 -- the lines are in order, each was the least pending one when it was taken, and each has a cause
 abbrev pub LogIsLawful : List ℕ → Type 0
@@ -17,4 +17,4 @@ abbrev pub NothingComesAfterTheEnd : List ℕ → Type 0
 NothingComesAfterTheEnd bytes =
     (end : ℕ) (calls : List Call) → reading bytes ≡ Ok (end, calls) →
     (machine_on end (stimuli_from end 0 calls)).pending ≡ [] →
-    (k : ℕ) → after (setting end) starts (stimuli_from end 0 calls) (longest-log + k) ≡ machine_on end (stimuli_from end 0 calls)
+    (k : ℕ) → after (setting end) starts (stimuli_from end 0 calls) (longest_log + k) ≡ machine_on end (stimuli_from end 0 calls)

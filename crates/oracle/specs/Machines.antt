@@ -10,8 +10,8 @@ use Rattle.sequential.specs.Runs.{setting_of}
 use Rattle.fare_rack.specs.FareRacks.{fare_rules}
 
 -- the most lines that a run writes
-unfoldable pub longest-log : ℕ
-longest-log = 65536
+unfoldable pub longest_log : ℕ
+longest_log = 65536
 
 -- the bus of three boards, up to this time
 abbrev pub setting : ℕ → Setting
@@ -23,4 +23,4 @@ starts = zeros ∷ zeros ∷ zeros ∷ []
 
 -- with nothing pending a step does nothing: a run that came to its end is there too
 abbrev pub machine_on : ℕ → List Message → Machine
-machine_on end stimuli = after (setting end) starts stimuli longest-log
+machine_on end stimuli = after (setting end) starts stimuli longest_log

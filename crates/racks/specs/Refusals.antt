@@ -4,14 +4,14 @@ use Rattle.bus.specs.declared.Message.{Message}
 use Rattle.bus.specs.declared.Words.{Words}
 use Rattle.bus.specs.Reactions.{Rule}
 use Rattle.savers.specs.Rows.{Row}
-use Rattle.savers.specs.Refusals.{number_of as saver-number-of}
+use Rattle.savers.specs.Refusals.{number_of as saver_number_of}
 use Rattle.racks.specs.declared.refusal.Refusal.{Refusal}
 use Rattle.racks.specs.declared.refusal.Refusal.TheVariants.{NoBoard, Saver}
 use Rattle.racks.specs.Racks.{rows_begun, rows_taken, rows_back, rows_forgot, answers_begun, answers_taken, answers_if_has}
 
 abbrev pub number_of : Refusal → ℕ
 number_of NoBoard = 1
-number_of (Saver e) = saver-number-of e
+number_of (Saver e) = saver_number_of e
 
 abbrev pub RefusedBeginLeavesTheRows : Type 0
 RefusedBeginLeavesTheRows =

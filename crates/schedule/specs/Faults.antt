@@ -4,7 +4,7 @@ use Rattle.std.specs.Option.{unwrap_or}
 use Rattle.std.specs.List.{AllByRecursion}
 use Rattle.schedule.specs.declared.call.Call as calls
 use Rattle.schedule.specs.declared.call.CallFault.{CallFault}
-use Rattle.schedule.specs.declared.call.CallFault.TheVariants as of-call
+use Rattle.schedule.specs.declared.call.CallFault.TheVariants as of_call
 use Rattle.schedule.specs.Layout.{most_bytes, edition_now, header_size, offer_letter, deliver_letter, run_letter, outlook_letter, commit_letter, encode, Within}
 use Rattle.schedule.specs.declared.file.Fault.{Fault}
 use Rattle.schedule.specs.declared.file.Layer.TheVariants.{File, Call, Number}
@@ -22,12 +22,12 @@ size letter =
 
 -- what the call layer says of a letter and the bytes that follow it
 abbrev pub call_fault : ℕ → List ℕ → Option CallFault
-call_fault letter rest = elim (size letter) [ None ↦ Some of-call.UnknownLetter | Some n ↦ cond (nat_lt (length rest) n) (Some (of-call.Number (record {}))) None ]
+call_fault letter rest = elim (size letter) [ None ↦ Some of_call.UnknownLetter | Some n ↦ cond (nat_lt (length rest) n) (Some (of_call.Number (record {}))) None ]
 
 -- the same, once the file layer has added the offset
 abbrev pub placed : ℕ → CallFault → Fault
-placed at (of-call.Number _) = record { layer = Number; offset = at; refusal = CutShort }
-placed at of-call.UnknownLetter = record { layer = Call; offset = at; refusal = UnknownLetter }
+placed at (of_call.Number _) = record { layer = Number; offset = at; refusal = CutShort }
+placed at of_call.UnknownLetter = record { layer = Call; offset = at; refusal = UnknownLetter }
 
 abbrev pub placed_result : {T : Type 0} → ℕ → Result T CallFault → Result T Fault
 placed_result at (Ok value) = Ok value
