@@ -1,15 +1,13 @@
--- A batch as a list of messages, and what one send becomes.
-use Rattle.std.specs.Prelude.{ℕ, ◌%◌, ◌^◌, cond, List, [], ◌∷◌, map, Some, None, Option}
+-- A batch of messages, and what one send becomes.
+use Rattle.std.specs.Prelude.{ℕ, ◌%◌, ◌^◌, cond, List, map, Some, None, Option}
 use Rattle.bus.specs.declared.Message.{Message}
 use Rattle.bus.specs.declared.Send.{Send}
-use Rattle.addressing.specs.declared.batch.Batch.{Batch}
-use Rattle.addressing.specs.declared.batch.Batch.TheVariants.{Empty, Single, Double}
+use Rattle.bus.specs.declared.up_to_two.UpToTwo.{UpToTwo}
 use Rattle.addressing.specs.Settings.{passes, as_message}
 
-abbrev pub batched : Batch → List Message
-batched Empty = []
-batched (Single a) = a ∷ []
-batched (Double a b) = a ∷ b ∷ []
+-- the messages that one reaction sends: at most two, by the type
+abbrev pub Batch : Type 0
+Batch = UpToTwo Message
 
 -- a message, or nothing where the send is dropped
 abbrev pub one_addressed : ℕ → ℕ → ℕ → ℕ → ℕ → Send → Option Message

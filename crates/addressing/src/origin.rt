@@ -2,9 +2,9 @@
 ghost use Rattle.std.specs.Prelude.{◌≡◌, ◌+◌, ◌^◌, ◌<◌};
 ghost use Rattle.bus.specs.Reactions.{listed};
 ghost use Rattle.addressing.specs.Settings.{addressed_in};
-ghost use Rattle.addressing.specs.Batches.{batched, one_addressed, all_in_32_bits};
+ghost use Rattle.addressing.specs.Batches.{one_addressed, all_in_32_bits};
 
-use crate::batch::Batch;
+use crate::Batch;
 use bus::{Message, Send, Sends};
 
 // The board that reacts and the time of its reaction; how many boards the bus has, and when it ends.
@@ -38,24 +38,22 @@ impl Origin {
 
     // All sends, numbered from this number on; one that is dropped takes no number. After the last number of 32 bits comes 0.
     pub fn messages(&self, number: u32, sends: &Sends) -> Batch
-        ensures numbered_from { number + 1 < 2 ^ 32 → batched result ≡ addressed_in self.now.boards self.now.end self.now.source self.now.time number (listed sends.now) }
-        ensures numbers_go_round { batched result ≡ all_in_32_bits (addressed_in self.now.boards self.now.end self.now.source self.now.time number (listed sends.now)) }
+        ensures numbered_from { number + 1 < 2 ^ 32 → listed result ≡ addressed_in self.now.boards self.now.end self.now.source self.now.time number (listed sends.now) }
+        ensures numbers_go_round { listed result ≡ all_in_32_bits (addressed_in self.now.boards self.now.end self.now.source self.now.time number (listed sends.now)) }
     {
         match sends {
-            Sends::Nothing => Batch::Empty,
-            Sends::One(send) => match self.message(number, send) {
-                Some(message) => Batch::Single(message),
-                None => Batch::Empty,
-            },
+            Sends::Nothing => Batch::Nothing,
+            Sends::One(send) => self
+                .message(number, send)
+                .map_or(Batch::Nothing, Batch::One),
             Sends::Two(first, second) => match self.message(number, first) {
                 Some(message) => match self.message(number.wrapping_add(1), second) {
-                    Some(other) => Batch::Double(message, other),
-                    None => Batch::Single(message),
+                    Some(other) => Batch::Two(message, other),
+                    None => Batch::One(message),
                 },
-                None => match self.message(number, second) {
-                    Some(message) => Batch::Single(message),
-                    None => Batch::Empty,
-                },
+                None => self
+                    .message(number, second)
+                    .map_or(Batch::Nothing, Batch::One),
             },
         }
     }

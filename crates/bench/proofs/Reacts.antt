@@ -3,8 +3,7 @@ use Rattle.std.proofs.Common.{◌≡◌, ℕ, zero, suc, ◌-◌, ◌<◌, ◌�
 use Rattle.std.proofs.lemmas.List.{length-take, get_or-take}
 use Rattle.std.proofs.lemmas.Bool.{lt-ltb, lt-leb, le-ltb}
 use Rattle.bus.specs.declared.Message.{Message}
-use Rattle.bus.specs.declared.Sends.{Sends}
-use Rattle.bus.specs.Reactions.{Rule, Reaction, unmoved, listed}
+use Rattle.bus.specs.Reactions.{Sends, Rule, Reaction, unmoved, listed}
 use Rattle.savers.specs.declared.refusal.Refusal.TheVariants.{Full}
 use Rattle.savers.specs.Rows.{Row, newest, has_room}
 use Rattle.racks.specs.declared.refusal.Refusal.{Refusal}

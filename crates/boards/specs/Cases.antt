@@ -3,9 +3,8 @@ use Rattle.std.specs.Prelude.{◌≡◌, ℕ}
 use Rattle.bus.specs.declared.Message.{Message}
 use Rattle.bus.specs.declared.Words.{Words}
 use Rattle.bus.specs.declared.Send.{Send}
-use Rattle.bus.specs.declared.Sends.{Sends}
-use Rattle.bus.specs.declared.Sends.TheVariants.{Nothing, One, Two}
-use Rattle.bus.specs.Reactions.{Rule}
+use Rattle.bus.specs.Reactions.{Sends, Rule}
+use Rattle.bus.specs.declared.up_to_two.UpToTwo.TheVariants.{Nothing, One, Two}
 use Rattle.bus.specs.Kinds as kinds
 use Rattle.boards.specs.Ticker.{ticker_rule}
 use Rattle.boards.specs.Reader.{reader_rule}

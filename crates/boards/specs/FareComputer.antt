@@ -3,7 +3,7 @@ use Rattle.std.specs.Prelude.{ℕ, cond, ◌==◌}
 use Rattle.bus.specs.declared.Message.{Message}
 use Rattle.bus.specs.declared.Words.{Words}
 use Rattle.bus.specs.declared.Send.{Send}
-use Rattle.bus.specs.declared.Sends.TheVariants.{Nothing, One}
+use Rattle.bus.specs.declared.up_to_two.UpToTwo.TheVariants.{Nothing, One}
 use Rattle.bus.specs.Reactions.{Rule, unmoved}
 use Rattle.boards.specs.declared.fare_computer.FareComputer.{FareComputer}
 use Rattle.bus.specs.Kinds as kinds

@@ -1,7 +1,7 @@
 -- The reader's rule. Its words are mode, card, accepted and refused. In mode 0 it takes a card, in mode 1 it waits for the verdict.
 use Rattle.std.specs.Prelude.{ℕ, ◌%◌, Bool, cond, ◌&&◌, ◌==◌}
 use Rattle.bus.specs.declared.Words.{Words}
-use Rattle.bus.specs.declared.Sends.TheVariants.{Nothing, One}
+use Rattle.bus.specs.declared.up_to_two.UpToTwo.TheVariants.{Nothing, One}
 use Rattle.bus.specs.Reactions.{Rule, unmoved}
 use Rattle.boards.specs.declared.reader.Reader.{Reader}
 use Rattle.bus.specs.Kinds as kinds

@@ -3,7 +3,7 @@ use Rattle.std.specs.Prelude.{ℕ, ◌-◌, ◌%◌, cond, nat_lt}
 use Rattle.bus.specs.declared.Message.{Message}
 use Rattle.bus.specs.declared.Words.{Words}
 use Rattle.bus.specs.declared.Send.{Send}
-use Rattle.bus.specs.declared.Sends.TheVariants.{One, Two}
+use Rattle.bus.specs.declared.up_to_two.UpToTwo.TheVariants.{One, Two}
 use Rattle.bus.specs.Reactions.{Rule, unmoved}
 use Rattle.boards.specs.declared.ticker.Ticker.{Ticker}
 use Rattle.bus.specs.Kinds as kinds

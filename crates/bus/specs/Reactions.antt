@@ -3,10 +3,14 @@ use Rattle.std.specs.Prelude.{List, [], ◌∷◌}
 use Rattle.bus.specs.declared.Message.{Message}
 use Rattle.bus.specs.declared.Words.{Words}
 use Rattle.bus.specs.declared.Send.{Send}
-use Rattle.bus.specs.declared.Sends.{Sends}
-use Rattle.bus.specs.declared.Sends.TheVariants.{Nothing, One, Two}
+use Rattle.bus.specs.declared.up_to_two.UpToTwo.{UpToTwo}
+use Rattle.bus.specs.declared.up_to_two.UpToTwo.TheVariants.{Nothing, One, Two}
 
--- one reaction: at most two sends, by the type
+-- the sends of one reaction: at most two, by the type
+abbrev pub Sends : Type 0
+Sends = UpToTwo Send
+
+-- one reaction
 pub record Reaction : Type 0 where
   pub words : Words
   pub sends : Sends
@@ -23,8 +27,8 @@ zeros = record { w0 = 0; w1 = 0; w2 = 0; w3 = 0 }
 abbrev pub unmoved : Rule
 unmoved w m = record { words = w; sends = Nothing }
 
--- the sends in their order
-abbrev pub listed : Sends → List Send
+-- none, one or two as a list, in their order
+abbrev pub listed : {X : Type 0} → UpToTwo X → List X
 listed Nothing = []
-listed (One s) = s ∷ []
-listed (Two s t) = s ∷ t ∷ []
+listed (One x) = x ∷ []
+listed (Two x y) = x ∷ y ∷ []

@@ -6,6 +6,7 @@ mod kinds;
 mod order;
 mod show;
 mod theorems;
+mod up_to_two;
 
 pub use blank::{BLANK, ZEROS};
 pub use kinds::{BEAT, CARD, INQUIRY, OUTSIDE, TICK, VERDICT, kinds_are_numbered};
@@ -13,6 +14,7 @@ pub use theorems::{
     at_one_time_the_lower_source_comes_first, messages_are_totally_ordered,
     sent_records_are_totally_ordered,
 };
+pub use up_to_two::UpToTwo;
 
 // A message on the bus. The fields stand in the order in which they decide which of two messages comes first.
 #[derive(Clone, Copy, PartialEq, PartialOrd)]
@@ -54,9 +56,4 @@ pub struct Send {
 }
 
 // The sends of one reaction, in their order: at most two.
-#[derive(Clone, Copy, PartialEq)]
-pub enum Sends {
-    Nothing,
-    One(Send),
-    Two(Send, Send),
-}
+pub type Sends = UpToTwo<Send>;

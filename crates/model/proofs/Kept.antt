@@ -7,11 +7,10 @@ use Rattle.std.proofs.lemmas.Bool.{cases_Bool, leb-false}
 use Rattle.rows.proofs.Sorted.{count_append}
 use Rattle.rows.specs.Rows.{without}
 use Rattle.bus.specs.Order.{message_before}
-use Rattle.bus.specs.Reactions.{listed}
+use Rattle.bus.specs.Reactions.{listed, Sends}
 use Rattle.bus.specs.declared.Message.{Message}
 use Rattle.bus.specs.declared.Send.{Send}
-use Rattle.bus.specs.declared.Sends.{Sends}
-use Rattle.bus.specs.declared.Sends.TheVariants.{Nothing, One, Two}
+use Rattle.bus.specs.declared.up_to_two.UpToTwo.TheVariants.{Nothing, One, Two}
 use Rattle.savers.specs.Rows.{Row, newest}
 use Rattle.addressing.specs.Settings.{Setting, addressed, boards_of, passes, rule_of}
 use Rattle.model.specs.Commit.{commit, lines_of_commit, share, shed, shed_from}

@@ -24,12 +24,12 @@ pub enum Refusal {
     RunsSpent,
 }
 
-impl Refusal {
-    // The number by which the refusal is told.
-    pub fn number(self) -> u8
-        ensures { result ≡ refusal_number self }
-    {
-        match self {
+// The number by which the refusal is told.
+impl From<Refusal> for u8 {
+    ghost from_gives = { λ refusal number. number ≡ refusal_number refusal };
+
+    fn from(refusal: Refusal) -> u8 {
+        match refusal {
             Refusal::NoBoard => 1,
             Refusal::PastEnd => 2,
             Refusal::BeforeLastLine => 20,

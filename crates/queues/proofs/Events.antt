@@ -2,10 +2,10 @@
 use Rattle.std.proofs.Common.{◌≡◌, ℕ, zero, suc, ◌+◌, ◌-◌, ◌*◌, ◌<◌, ◌≤◌, List, [], ◌∷◌, ◌++◌, map, length, get_or, take, drop, set, sym, refl, ap, ◌∙◌, arith}
 use Rattle.std.proofs.lemmas.List.{length-map, map-append, length-drop, length-take-le, take-append-le, drop-append-le, take_all, take_more, take-append-drop, nil_from_length}
 use Rattle.bus.specs.declared.Message.{Message}
-use Rattle.addressing.specs.declared.batch.Batch.{Batch}
-use Rattle.addressing.specs.declared.batch.Batch.TheVariants.{Empty, Single, Double}
+use Rattle.addressing.specs.Batches.{Batch}
+use Rattle.bus.specs.declared.up_to_two.UpToTwo.TheVariants.{Nothing, One, Two}
 use Rattle.queues.specs.Sums.{sum}
-use Rattle.addressing.specs.Batches.{batched}
+use Rattle.bus.specs.Reactions.{listed}
 use Rattle.model.specs.State.{Event, Queues, sends_of}
 use Rattle.queues.specs.Entries.{events, first_stands, outputs_of}
 use Rattle.bus.specs.declared.Sent.{Sent}
@@ -14,10 +14,10 @@ use Rattle.queues.specs.Memory.{written, sent_by}
 use Rattle.queues.proofs.Splits.{between_first}
 use Rattle.queues.proofs.Writes.{take_written}
 
-pub batch_small : (b : Batch) → length (batched b) ≤ 2
-batch_small Empty = omega arith
-batch_small (Single a) = omega arith
-batch_small (Double a b) = omega arith
+pub batch_small : (b : Batch) → length (listed b) ≤ 2
+batch_small Nothing = omega arith
+batch_small (One a) = omega arith
+batch_small (Two a b) = omega arith
 
 pub sum_twos : (xs : List ℕ) (n : ℕ) → ((k : ℕ) → get_or xs k 0 ≤ 2) → sum (take n xs) ≤ 2 * n
 sum_twos xs zero h = omega arith

@@ -1,13 +1,11 @@
 -- The least of what is outstanding.
-use Rattle.std.proofs.Common.{◌≡◌, ℕ, ◌-◌, ◌<◌, ◌≤◌, List, [], ◌∷◌, ◌++◌, length, get_or, drop, Some, None, Option, sym, refl, ap, ◌∙◌, inl, inr, arith}
-use Rattle.std.proofs.lemmas.List.{get_or_default}
+use Rattle.std.proofs.Common.{◌≡◌, List, [], ◌∷◌, ◌++◌, Some, None, Option, sym, refl, ap, ◌∙◌, inl, inr}
 use Rattle.std.proofs.lemmas.Bool.{cases_Bool, true≢false}
-use Rattle.rows.specs.Rows.{nearer, least}
+use Rattle.rows.specs.Rows.{nearer, lesser, least}
 use Rattle.rows.proofs.Keys.{into_right}
-use Rattle.rows.proofs.Steps.{drop_back}
 use Rattle.bus.specs.declared.Message.{Message}
 use Rattle.bus.specs.Order.{message_before, message_total}
-use Rattle.queues.specs.Outlooks.{lesser, least_onto}
+use Rattle.queues.specs.Outlooks.{least_onto}
 
 pub onto_append : (xs ys : List Message) (rest : Option Message) → least_onto (xs ++ ys) rest ≡ least_onto xs (least_onto ys rest)
 onto_append [] ys rest = refl
@@ -18,7 +16,7 @@ least_append [] ys = refl
 least_append (x ∷ xs) ys = ap (nearer message_before x) (least_append xs ys)
 
 -- of three, it does not matter which two are compared first
-nearer_lesser : (x : Message) (o rest : Option Message) → lesser (nearer message_before x o) rest ≡ nearer message_before x (lesser o rest)
+nearer_lesser : (x : Message) (o rest : Option Message) → lesser message_before (nearer message_before x o) rest ≡ nearer message_before x (lesser message_before o rest)
 nearer_lesser x None rest = refl
 nearer_lesser x (Some y) None = refl
 nearer_lesser x (Some y) (Some z) = elim (cases_Bool (message_before y x)) [
@@ -36,10 +34,6 @@ nearer_lesser x (Some y) (Some z) = elim (cases_Bool (message_before y x)) [
 ]
 
 -- the lesser of a row's least and of the rest
-pub lesser_least : (xs : List Message) (rest : Option Message) → lesser (least message_before xs) rest ≡ least_onto xs rest
+pub lesser_least : (xs : List Message) (rest : Option Message) → lesser message_before (least message_before xs) rest ≡ least_onto xs rest
 lesser_least [] rest = refl
 lesser_least (x ∷ xs) rest = nearer_lesser x (least message_before xs) rest ∙ ap (nearer message_before x) (lesser_least xs rest)
-
--- one step back
-pub back_one : {X : Type 0} (xs : List X) (i : ℕ) (d : X) → 0 < i → i ≤ length xs → drop (i - 1) xs ≡ get_or xs (i - 1) d ∷ drop i xs
-back_one xs i d lt le = drop_back xs i (get_or xs (i - 1) d) lt le (get_or_default xs (i - 1) d (get_or xs (i - 1) d) (omega arith))

@@ -1,11 +1,9 @@
 // What waits at the boards and what is in transit, in memory of fixed size.
 #![tactic(auto)]
 
-mod blank;
 mod board;
 mod effect;
 mod held;
-mod lesser;
 mod notes;
 mod plan;
 mod sums;

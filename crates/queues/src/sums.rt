@@ -6,9 +6,5 @@ pub(crate) fn total(counts: &[u8]) -> usize
     requires { length counts.now ≤ 32 }
     ensures { result ≡ sum counts.now }
 {
-    let mut all = 0;
-    for count in counts {
-        all += usize::from(*count);
-    }
-    all
+    counts.iter().map(|count| usize::from(*count)).sum()
 }

@@ -19,31 +19,16 @@ pub struct Table {
     pub entries: [BoardQueues; 8],
 }
 
-// The least message that is outstanding at some boards, and of the rest.
-fn outlook_over(entries: &[BoardQueues], rest: Option<Message>) -> Option<Message>
-    ensures { result ≡ least_onto (flat (map open_and_early (map queues_of entries.now))) rest }
-{
-    let mut best = rest;
-    for i in (0..entries.len()).rev() {
-        best = entries[i].outlook(best);
-    }
-    best
-}
-
 // The lesser of a board's first standing message and of those behind it.
 fn nearer_front(board: usize, first: Option<Message>, rest: Option<Front>) -> Option<Front>
     ensures { result ≡ nearer_front board first rest }
 {
-    match (first, rest) {
-        (None, rest) => rest,
-        (Some(message), None) => Some(Front { board, message }),
-        (Some(message), Some(front)) => {
-            if front.message.before(&message) {
-                Some(front)
-            } else {
-                Some(Front { board, message })
-            }
-        }
+    let Some(message) = first else {
+        return rest;
+    };
+    match rest {
+        Some(front) if front.message.before(&message) => rest,
+        _ => Some(Front { board, message }),
     }
 }
 
@@ -52,6 +37,7 @@ fn soonest_of(entries: &[BoardQueues]) -> Option<Front>
     ensures { result ≡ soonest 0 (map queues_of entries.now) }
 {
     let mut best = None;
+    // by number, since no proof closed for `rfold` over `enumerate`: the search does not follow what it yields from the back
     for i in (0..entries.len()).rev() {
         best = nearer_front(i, entries[i].front(), best);
     }
@@ -72,20 +58,14 @@ impl Table {
     pub fn next(&self, k: usize) -> Option<Message>
         ensures { result ≡ first_message (board_in self.now k).open_ones }
     {
-        match self.entries.get(k) {
-            Some(entry) => entry.next(),
-            None => None,
-        }
+        self.entries.get(k)?.next()
     }
 
     // How many messages the committed and the standing events of board k sent.
     pub fn issued(&self, k: usize) -> u64
         ensures { result ≡ issued (board_in self.now k) }
     {
-        match self.entries.get(k) {
-            Some(entry) => entry.issued(),
-            None => 0,
-        }
+        self.entries.get(k).map_or(0, |entry| entry.issued())
     }
 
     // What an arrival at board k asks of the bench.
@@ -112,7 +92,9 @@ impl Table {
     pub fn outlook(&self, rest: Option<Message>) -> Option<Message>
         ensures { result ≡ least_onto (flat (map open_and_early (boards_in self.now))) rest }
     {
-        outlook_over(&self.entries, rest)
+        self.entries
+            .iter()
+            .rfold(rest, |best, entry| entry.outlook(best))
     }
 
     // The least first standing message, and its board.

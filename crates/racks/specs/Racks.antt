@@ -2,8 +2,7 @@
 use Rattle.std.specs.Prelude.{ℕ, ◌<◌, ◌≤◌, cond, List, [], ◌∷◌, length, Ok, Err, Result, nat_lt, slice_index_or, slice_set}
 use Rattle.bus.specs.declared.Message.{Message}
 use Rattle.bus.specs.declared.Words.{Words}
-use Rattle.bus.specs.declared.Sends.{Sends}
-use Rattle.bus.specs.Reactions.{Rule, unmoved}
+use Rattle.bus.specs.Reactions.{Sends, Rule, unmoved}
 use Rattle.savers.specs.declared.refusal.Refusal.{Refusal as SaverRefusal}
 use Rattle.savers.specs.Rows.{Row, longest, follow, newest, row_taken, answer_taken, row_back, row_forgot, answer_if_has}
 use Rattle.racks.specs.declared.refusal.Refusal.{Refusal}

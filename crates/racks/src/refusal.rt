@@ -19,14 +19,14 @@ impl From<savers::Refusal> for Refusal {
     }
 }
 
-impl Refusal {
-    // The number by which the refusal is told.
-    pub fn number(self) -> u8
-        ensures { result ≡ number_of self }
-    {
-        match self {
+// The number by which the refusal is told.
+impl From<Refusal> for u8 {
+    ghost from_gives = { λ refusal number. number ≡ number_of refusal };
+
+    fn from(refusal: Refusal) -> u8 {
+        match refusal {
             Refusal::NoBoard => 1,
-            Refusal::Saver(refusal) => refusal.number(),
+            Refusal::Saver(refusal) => u8::from(refusal),
         }
     }
 }

@@ -14,14 +14,6 @@ const TICK: Message = Message {
     payload: 0,
 };
 
-// The number of a refusal, or 0 where there is none.
-fn number<T: Drop>(answer: Result<T, Refusal>) -> u8 {
-    match answer {
-        Ok(_) => 0,
-        Err(refusal) => refusal.number(),
-    }
-}
-
 #[test]
 fn missing_address_is_refused_first(rt: HostRuntime) -> Result<(), Fail> {
     let left = One {
@@ -31,10 +23,10 @@ fn missing_address_is_refused_first(rt: HostRuntime) -> Result<(), Fail> {
         saver: Checkpoints::new(Ticker::new()),
     };
     let mut rack = Pair { left, right };
-    assert!(rt; number(rack.take(1, &TICK)) == 0);
-    assert!(rt; number(rack.forget(1, 2)) == 28);
-    assert!(rt; number(rack.forget(2, 2)) == 1);
-    assert!(rt; number(rack.take(2, &TICK)) == 1);
+    assert!(rt; rack.take(1, &TICK).is_ok());
+    assert!(rt; rack.forget(1, 2).err().map(u8::from) == Some(28));
+    assert!(rt; rack.forget(2, 2).err().map(u8::from) == Some(1));
+    assert!(rt; rack.take(2, &TICK).err().map(u8::from) == Some(1));
     match (rack.words(0), rack.words(1)) {
         (Ok(fare), Ok(ticker)) => {
             assert!(rt; fare.w3 == 0 && ticker.w3 == 1);

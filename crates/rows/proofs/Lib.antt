@@ -6,6 +6,7 @@ pub mod Steps
 pub mod Shifts
 pub mod Memory
 pub mod Removed
+pub mod Folds
 pub mod Found
 pub mod Minimum
 pub mod Owned

@@ -1,6 +1,9 @@
--- One turn of the searches over a row. Assumes nothing.
-use Rattle.std.proofs.Common.{◌≡◌, ℕ, zero, suc, ◌+◌, ◌-◌, ◌<◌, ◌≤◌, Bool, true, false, cond, List, [], ◌∷◌, length, get_or, drop, Some, None, sym, ap, ◌∙◌, arith}
-use Rattle.std.proofs.lemmas.List.{drop_more, at_drop_all}
+-- What a search over a row tells place by place, and the place that it answers. Assumes nothing.
+use Rattle.std.proofs.Common.{◌≡◌, ℕ, zero, suc, ◌<◌, ◌≤◌, Bool, true, false, cond, List, [], ◌∷◌, length, get_or, Some, None, Option, sym, refl, ap, ◌∙◌, arith}
+use Rattle.std.specs.Option.{MatchOption, unwrap_or}
+use Rattle.std.specs.List.{position_or_len}
+use Rattle.std.proofs.lemmas.List.Recursion.{is_position_or_len}
+use Rattle.std.proofs.lemmas.List.Sums.{position_or_len_is}
 use Rattle.std.proofs.lemmas.Bool.{cond-true, cond-false, lt-ltb, le-ltb}
 use Rattle.rows.specs.Order.{same}
 use Rattle.rows.specs.Rows.{first_at, within, last_of, later_or}
@@ -12,45 +15,44 @@ within_some row k lt = cond-true _ _ _ (lt-ltb k (length row) lt)
 pub within_none : {X : Type 0} (row : List X) (k : ℕ) → length row ≤ k → within row k ≡ None
 within_none row k le = cond-false _ _ _ (le-ltb k (length row) le)
 
--- a search for the first record that passes a test has passed i records
-abbrev pub Passed : {X : Type 0} → (X → Bool) → List X → ℕ → Type 0
-Passed test row i = first_at test row ≡ i + first_at test (drop i row)
+-- no record passes, or the one at the place does, and none before it
+abbrev pub FirstPasses : {X : Type 0} → (X → Bool) → List X → Option ℕ → Type 0
+FirstPasses {X} test row r =
+    MatchOption r
+    ((k : ℕ) (d : X) → k < length row → test (get_or row k d) ≡ false)
+    (λ i. (i < length row) × ((d : X) → test (get_or row i d) ≡ true) × ((k : ℕ) (d : X) → k < i → test (get_or row k d) ≡ false))
 
-module _ {X : Type 0} (test : X → Bool) (row : List X) (i : ℕ) (passed : Passed test row i) where
-  -- ... and all of them
-  pub passed_all : length row ≤ i → first_at test row ≡ i
-  passed_all past = omega (arith, passed, at_drop_all (first_at test) row i past)
+-- no record passes, or the one at the place does, and none behind it
+abbrev pub LastPasses : {X : Type 0} → (X → Bool) → List X → Option ℕ → Type 0
+LastPasses {X} test row r =
+    MatchOption r
+    ((k : ℕ) (d : X) → k < length row → test (get_or row k d) ≡ false)
+    (λ i. (i < length row) × ((d : X) → test (get_or row i d) ≡ true) × ((k : ℕ) (d : X) → i < k → k < length row → test (get_or row k d) ≡ false))
 
-  module _ (held : X) (within : i < length row) (read : held ≡ get_or row i held) where
-    left : drop i row ≡ held ∷ drop (i + 1) row
-    left = drop_more row i held within ∙ ap (λ y. y ∷ drop (i + 1) row) (sym read)
+-- the place, or the row's end, is that of the first record that passes
+pub first_or_end : {X : Type 0} (test : X → Bool) (row : List X) (d : X) (r : Option ℕ) → FirstPasses test row r → unwrap_or r (length row) ≡ first_at test row
+first_or_end test row d r h =
+    sym (counted r h) ∙ sym (is_position_or_len (first_at test) test refl (λ x xs. ap (λ n. cond (test x) 0 n) (omega arith)) row)
+  where
+    counted : (r : Option ℕ) → FirstPasses test row r → position_or_len test row ≡ unwrap_or r (length row)
+    counted None h = position_or_len_is test row (length row) d (omega arith) (λ k lt. h k d lt) (λ lt. absurd (omega arith))
+    counted (Some i) h = position_or_len_is test row i d (omega (arith, h.0)) (λ k lt. h.2 k d lt) (λ lt. h.1 d)
 
-    -- the record at hand passes the test, or is passed too
-    pub passed_here : test held ≡ true → first_at test row ≡ i
-    passed_here e = let here : first_at test (drop i row) ≡ 0 = ap (first_at test) left ∙ cond-true _ _ _ e in omega (arith, passed, here)
+pub first_is : {X : Type 0} (test : X → Bool) (row : List X) (d : X) (r : Option ℕ) → FirstPasses test row r → r ≡ within row (first_at test row)
+first_is test row d None h = let e = first_or_end test row d None h in sym (within_none row (first_at test row) (omega (arith, e)))
+first_is test row d (Some i) h =
+    let e : i ≡ first_at test row = first_or_end test row d (Some i) h in
+    ap Some e ∙ sym (within_some row (first_at test row) (omega (arith, h.0, e)))
 
-    pub passed_more : test held ≡ false → Passed test row (i + 1)
-    passed_more e = let more : first_at test (drop i row) ≡ suc (first_at test (drop (i + 1) row)) = ap (first_at test) left ∙ cond-false _ _ _ e in omega (arith, passed, more)
-
--- what is left of a row in front of the place that a search from the end comes to next
-pub drop_back : {X : Type 0} (row : List X) (i : ℕ) (held : X) → 0 < i → i ≤ length row → held ≡ get_or row (i - 1) held → drop (i - 1) row ≡ held ∷ drop i row
-drop_back row i held lt le read =
-    let e : i - 1 + 1 ≡ i = omega arith in
-    drop_more row (i - 1) held (omega arith) ∙ ap (λ y. y ∷ drop (i - 1 + 1) row) (sym read) ∙ ap (λ k. held ∷ drop k row) e
-
--- what is last behind a place is last of all
-last_behind : {X : Type 0} (before : X → X → Bool) (x : X) (k j : ℕ) (row : List X) → last_of before x (drop k row) ≡ Some j → last_of before x row ≡ Some (k + j)
-last_behind before x zero j row h = h ∙ ap Some (omega arith)
-last_behind before x (suc k) j [] h = let z : ◌≡◌ {A = ℕ} 0 1 = cc in absurd (omega arith)
-last_behind before x (suc k) j (y ∷ ys) h = ap (λ f. later_or f (same before x y)) (last_behind before x k j ys h) ∙ ap Some (omega arith)
-
--- a search from the end has passed all records from i on
-module _ {X : Type 0} (before : X → X → Bool) (x : X) (row : List X) (i : ℕ) (passed : last_of before x (drop i row) ≡ None) (held : X) (lt : 0 < i) (le : i ≤ length row) (read : held ≡ get_or row (i - 1) held) where
-  next : last_of before x (drop (i - 1) row) ≡ cond (same before x held) (Some 0) None
-  next = ap (last_of before x) (drop_back row i held lt le read) ∙ ap (λ f. later_or f (same before x held)) passed
-
-  pub last_here : same before x held ≡ true → last_of before x row ≡ Some (i - 1)
-  last_here e = last_behind before x (i - 1) 0 row (next ∙ cond-true _ _ _ e) ∙ ap Some (omega arith)
-
-  pub last_more : same before x held ≡ false → last_of before x (drop (i - 1) row) ≡ None
-  last_more e = next ∙ cond-false _ _ _ e
+-- the place is that of the last record that is x
+pub last_is : {X : Type 0} (before : X → X → Bool) (x : X) (row : List X) (r : Option ℕ) → LastPasses (same before x) row r → r ≡ last_of before x row
+last_is before x [] None h = refl
+last_is before x [] (Some i) h = absurd (omega (arith, h.0))
+last_is before x (y ∷ ys) None h =
+    sym (cond-false _ _ _ (h 0 x (omega arith)))
+    ∙ ap (λ f. later_or f (same before x y)) (last_is before x ys None (λ k d lt. h (suc k) d (omega arith)))
+last_is before x (y ∷ ys) (Some zero) h =
+    sym (cond-true _ _ _ (h.1 x))
+    ∙ ap (λ f. later_or f (same before x y)) (last_is before x ys None (λ k d lt. h.2 (suc k) d (omega arith) (omega arith)))
+last_is before x (y ∷ ys) (Some (suc i)) h =
+    ap (λ f. later_or f (same before x y)) (last_is before x ys (Some i) (omega (arith, h.0), h.1, λ k d lt le. h.2 (suc k) d (omega arith) (omega arith)))

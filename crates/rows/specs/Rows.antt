@@ -70,6 +70,11 @@ abbrev pub nearer : {X : Type 0} → (X → X → Bool) → X → Option X → O
 nearer before x None = Some x
 nearer before x (Some y) = Some (cond (before y x) y x)
 
+-- the lesser of two records, if there are two
+abbrev pub lesser : {X : Type 0} → (X → X → Bool) → Option X → Option X → Option X
+lesser before None other = other
+lesser before (Some x) other = nearer before x other
+
 -- the least record of a row
 abbrev pub least : {X : Type 0} → (X → X → Bool) → List X → Option X
 least before [] = None

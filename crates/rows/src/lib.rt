@@ -17,7 +17,7 @@ pub use change::{cut, put, remove, shed};
 pub use front::row;
 pub use order::TotalOrder;
 pub use refusal::Refusal;
-pub use search::{find, find_last, least, place};
+pub use search::{find, find_last, least, lesser, place};
 pub use theorems::{
     found_place_holds_an_equal, insertion_adds_one_equal, insertion_keeps_order,
     last_equal_is_where_placed, least_comes_first, removal_takes_one_equal, shortening_keeps_order,

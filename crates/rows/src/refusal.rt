@@ -8,11 +8,11 @@ pub enum Refusal {
     Full = 19,
 }
 
-impl Refusal {
-    // The number by which the refusal is told.
-    pub fn number(self) -> u8
-        ensures { result ≡ refusal_number self }
-    {
-        self as u8
+// The number by which the refusal is told.
+impl From<Refusal> for u8 {
+    ghost from_gives = { λ refusal number. number ≡ refusal_number refusal };
+
+    fn from(refusal: Refusal) -> u8 {
+        refusal as u8
     }
 }

@@ -1,6 +1,6 @@
 // Searches in a row: places of records, and the least record.
 ghost use Rattle.std.specs.Prelude.{◌≡◌, take};
-ghost use Rattle.rows.specs.Rows.{place_of, first_of, last_of, nearer, least};
+ghost use Rattle.rows.specs.Rows.{place_of, first_of, last_of, lesser, least};
 
 use crate::front::row;
 use crate::order::{TotalOrder, alike};
@@ -10,47 +10,34 @@ pub fn place<T: TotalOrder>(memory: &[T], count: usize, item: &T) -> usize
     ensures { result ≡ place_of T.earlier item.now (take count memory.now) }
 {
     let row = row(memory, count);
-    for (i, held) in row.iter().enumerate() {
-        if item.before(held) {
-            return i;
-        }
-    }
-    row.len()
+    row.iter()
+        .position(|held| item.before(held))
+        .unwrap_or(row.len())
 }
 
 // The place of the first record that equals this one.
 pub fn find<T: TotalOrder>(memory: &[T], count: usize, item: &T) -> Option<usize>
     ensures { result ≡ first_of T.earlier item.now (take count memory.now) }
 {
-    let row = row(memory, count);
-    for (i, held) in row.iter().enumerate() {
-        if alike(item, held) {
-            return Some(i);
-        }
-    }
-    None
+    row(memory, count).iter().position(|held| alike(item, held))
 }
 
 // The place of the last record that equals this one.
 pub fn find_last<T: TotalOrder>(memory: &[T], count: usize, item: &T) -> Option<usize>
     ensures { result ≡ last_of T.earlier item.now (take count memory.now) }
 {
-    let row = row(memory, count);
-    for i in (0..row.len()).rev() {
-        if alike(item, &row[i]) {
-            return Some(i);
-        }
-    }
-    None
+    row(memory, count)
+        .iter()
+        .rposition(|held| alike(item, held))
 }
 
-// The lesser of a record and the least of the records behind it, if there are any.
-fn nearer<T: TotalOrder>(item: T, rest: Option<T>) -> Option<T>
-    ensures { result ≡ nearer T.earlier item rest }
+// The lesser of two records, either of which may be missing.
+pub fn lesser<T: TotalOrder>(one: Option<T>, other: Option<T>) -> Option<T>
+    ensures { result ≡ lesser T.earlier one other }
 {
-    match rest {
-        Some(other) if other.before(&item) => Some(other),
-        _ => Some(item),
+    match (one, other) {
+        (Some(one), Some(other)) => Some(if other.before(&one) { other } else { one }),
+        (one, other) => one.or(other),
     }
 }
 
@@ -58,9 +45,6 @@ fn nearer<T: TotalOrder>(item: T, rest: Option<T>) -> Option<T>
 pub fn least<T: TotalOrder>(row: &[T]) -> Option<T>
     ensures { result ≡ least T.earlier row.now }
 {
-    let mut best = None;
-    for i in (0..row.len()).rev() {
-        best = nearer(row[i], best);
-    }
-    best
+    row.iter()
+        .rfold(None, |best, item| lesser(Some(*item), best))
 }

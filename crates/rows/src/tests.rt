@@ -36,7 +36,7 @@ fn a_full_row_refuses(rt: HostRuntime) {
     assert!(rt; matches!(put(&mut memory, 2, 4), Err(Refusal::Full)));
     assert!(rt; matches!(put(&mut memory, 7, 4), Err(Refusal::Full)));
     assert!(rt; memory == [3, 5]);
-    assert!(rt; Refusal::Full.number() == 19);
+    assert!(rt; u8::from(Refusal::Full) == 19);
 }
 
 #[test]

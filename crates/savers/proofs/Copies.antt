@@ -4,8 +4,7 @@ use lib.Seq.{paste}
 use Rattle.std.proofs.lemmas.List.{length-take-le, take-take, take_more_set, get_or-take, drop-take}
 use Rattle.bus.specs.declared.Message.{Message}
 use Rattle.bus.specs.declared.Words.{Words}
-use Rattle.bus.specs.declared.Sends.{Sends}
-use Rattle.bus.specs.Reactions.{Rule, zeros}
+use Rattle.bus.specs.Reactions.{Sends, Rule, zeros}
 use Rattle.savers.specs.Rows.{capacity, longest, newest, row_taken, answer_taken, row_back, row_forgot}
 use Rattle.savers.specs.Copies.{copied}
 use Rattle.savers.specs.Known.{takes, answers, goes_back, forgets, newest_is}

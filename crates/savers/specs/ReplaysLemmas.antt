@@ -7,8 +7,7 @@ use Rattle.std.proofs.lemmas.List.FromFn.{length-map-range_with_len, get_or-map-
 use Rattle.std.proofs.lemmas.List.{get_or-set_same, get_or-set_other, take-set-le, take_more, take_all, take_more_set, drop-set-add, drop-drop, get_or-drop, get_or-take, ext_get_or}
 use Rattle.bus.specs.declared.Message.{Message}
 use Rattle.bus.specs.declared.Words.{Words}
-use Rattle.bus.specs.declared.Sends.{Sends}
-use Rattle.bus.specs.Reactions.{Rule, zeros}
+use Rattle.bus.specs.Reactions.{Sends, Rule, zeros}
 use Rattle.savers.specs.Rows.{capacity, newest, row_taken, answer_taken, row_back, row_forgot}
 use Rattle.savers.specs.Replays.{step, after, since, reached, replayed}
 use Rattle.savers.specs.Known.{newest_is, takes, answers, goes_back, forgets}

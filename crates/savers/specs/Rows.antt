@@ -2,8 +2,7 @@
 use Rattle.std.specs.Prelude.{ℕ, ◌+◌, ◌-◌, Bool, cond, List, [], ◌∷◌, ◌++◌, length, take, drop, Ok, Err, Result, nat_le, nat_lt, slice_index_or}
 use Rattle.bus.specs.declared.Message.{Message}
 use Rattle.bus.specs.declared.Words.{Words}
-use Rattle.bus.specs.declared.Sends.{Sends}
-use Rattle.bus.specs.Reactions.{Rule, zeros}
+use Rattle.bus.specs.Reactions.{Sends, Rule, zeros}
 use Rattle.savers.specs.declared.refusal.Refusal.{Refusal}
 use Rattle.savers.specs.declared.refusal.Refusal.TheVariants.{Full, TooFew}
 

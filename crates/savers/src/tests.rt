@@ -13,26 +13,18 @@ const TICK: Message = Message {
     payload: 0,
 };
 
-// The number of a refusal, or 0 where there is none.
-fn number<T: Drop>(answer: Result<T, Refusal>) -> u8 {
-    match answer {
-        Ok(_) => 0,
-        Err(refusal) => refusal.number(),
-    }
-}
-
 // Fills a saver of a ticker, whose last word counts the ticks.
 fn refuses_past_its_ends<S: Saver>(rt: &impl Abort, saver: &mut S) {
     for _ in 0..CAPACITY {
-        assert!(rt; number(saver.take(&TICK)) == 0);
+        assert!(rt; saver.take(&TICK).is_ok());
     }
-    assert!(rt; number(saver.take(&TICK)) == 27);
-    assert!(rt; number(saver.back(33)) == 28);
-    assert!(rt; number(saver.forget(33)) == 28);
+    assert!(rt; saver.take(&TICK).err().map(u8::from) == Some(27));
+    assert!(rt; saver.back(33).err().map(u8::from) == Some(28));
+    assert!(rt; saver.forget(33).err().map(u8::from) == Some(28));
     assert!(rt; saver.held() == 32 && saver.words().w3 == 32);
-    assert!(rt; number(saver.forget(5)) == 0);
-    assert!(rt; number(saver.back(9)) == 0);
-    assert!(rt; number(saver.forget(10)) == 28);
+    assert!(rt; saver.forget(5).is_ok());
+    assert!(rt; saver.back(9).is_ok());
+    assert!(rt; saver.forget(10).err().map(u8::from) == Some(28));
     assert!(rt; saver.held() == 9 && saver.words().w3 == 14);
 }
 

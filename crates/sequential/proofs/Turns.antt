@@ -5,9 +5,8 @@ use Rattle.std.proofs.lemmas.List.{get_or_append_left, get_or-map, get_or-take, 
 use Rattle.bus.specs.declared.Message.{Message}
 use Rattle.bus.specs.declared.Words.{Words}
 use Rattle.bus.specs.declared.Send.{Send}
-use Rattle.bus.specs.declared.Sends.{Sends}
-use Rattle.bus.specs.declared.Sends.TheVariants.{Nothing, One, Two}
-use Rattle.bus.specs.Reactions.{Rule, zeros, unmoved, listed}
+use Rattle.bus.specs.Reactions.{Sends, Rule, zeros, unmoved, listed}
+use Rattle.bus.specs.declared.up_to_two.UpToTwo.TheVariants.{Nothing, One, Two}
 use Rattle.savers.specs.Rows.{Row, row_taken, row_forgot, answer_taken}
 use Rattle.racks.specs.Racks.{rule_at, row_at, passed_on}
 use Rattle.addressing.specs.Settings.{Setting, boards_of, rule_of, passes, addressed_in}

@@ -2,9 +2,8 @@
 use Rattle.std.specs.Prelude.{ℕ, ◌+◌, min, Bool, cond, List, [], ◌∷◌, map, length, Ok, Err, Result, nat_lt, slice_index, slice_set}
 use Rattle.bus.specs.declared.Message.{Message}
 use Rattle.bus.specs.declared.Words.{Words}
-use Rattle.bus.specs.declared.Sends.{Sends}
-use Rattle.bus.specs.declared.Sends.TheVariants.{Nothing}
-use Rattle.bus.specs.Reactions.{Rule, listed}
+use Rattle.bus.specs.Reactions.{Sends, Rule, listed}
+use Rattle.bus.specs.declared.up_to_two.UpToTwo.TheVariants.{Nothing}
 use Rattle.rows.specs.Rows.{in_front}
 use Rattle.savers.specs.Rows.{Row}
 use Rattle.racks.specs.declared.refusal.Refusal.{Refusal}

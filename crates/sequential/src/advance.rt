@@ -1,6 +1,6 @@
 // One message taken: its destination reacts, and what that sends is addressed and numbered.
 ghost use Rattle.std.specs.Prelude.{◌≡◌, ◌+◌, ◌^◌, ◌<◌, length, slice_index};
-ghost use Rattle.addressing.specs.Batches.{batched};
+ghost use Rattle.bus.specs.Reactions.{listed};
 ghost use Rattle.sequential.specs.Racks.{rows_reacted, sends_reacted, rows_after, messages_after, sent_after};
 
 use addressing::{Batch, Origin};
@@ -30,13 +30,13 @@ pub(crate) fn advance<R: Rack>(
 ) -> Batch
     requires { slice_index sent.old message.now.destination + 2 < 2 ^ 32 }
     ensures left { R.Rack.rows rack.new ≡ rows_after R.Rack.rules (R.Rack.rows rack.old) message.now }
-    ensures answer { batched result ≡ messages_after R.Rack.rules end (R.Rack.rows rack.old) sent.old message.now }
-    ensures counted { sent.new ≡ sent_after R.Rack.rules sent.old message.now (length (batched result)) }
+    ensures answer { listed result ≡ messages_after R.Rack.rules end (R.Rack.rows rack.old) sent.old message.now }
+    ensures counted { sent.new ≡ sent_after R.Rack.rules sent.old message.now (length (listed result)) }
 {
     let boards = R::boards();
     let source = message.destination;
     if source >= boards {
-        return Batch::Empty;
+        return Batch::Nothing;
     }
     let sends = react(rack, message);
     let origin = Origin {

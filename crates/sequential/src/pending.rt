@@ -2,7 +2,7 @@
 ghost use Rattle.std.specs.Prelude.{◌≡◌, ◌+◌, ◌≤◌, ◌++◌, length, take};
 ghost use Rattle.rows.specs.Rows.{without_one, in_front};
 ghost use Rattle.bus.specs.Order.{message_before};
-ghost use Rattle.addressing.specs.Batches.{batched};
+ghost use Rattle.bus.specs.Reactions.{listed};
 ghost use Rattle.sequential.specs.Runs.{next_of};
 
 use crate::outcome::Ended;
@@ -41,16 +41,16 @@ pub(crate) fn discard(pending: &mut [Message], held: usize, message: &Message) -
 // Puts messages behind the pending ones, and answers how many there are then.
 pub(crate) fn append(pending: &mut [Message], held: usize, batch: &Batch) -> usize
     requires { held + 2 ≤ length pending.old }
-    ensures answer { result ≡ held + length (batched batch.now) }
-    ensures after { pending.new ≡ in_front (take held pending.old ++ batched batch.now) pending.old }
+    ensures answer { result ≡ held + length (listed batch.now) }
+    ensures after { pending.new ≡ in_front (take held pending.old ++ listed batch.now) pending.old }
 {
     match batch {
-        Batch::Empty => held,
-        Batch::Single(message) => {
+        Batch::Nothing => held,
+        Batch::One(message) => {
             pending[held] = *message;
             held + 1
         }
-        Batch::Double(first, second) => {
+        Batch::Two(first, second) => {
             pending[held] = *first;
             pending[held + 1] = *second;
             held + 2

@@ -62,7 +62,7 @@ impl<R: Rack> Running<R> {
             kind,
             payload,
         };
-        self.transit.send(&Batch::Single(stimulus));
+        self.transit.send(&Batch::One(stimulus));
         self.offers += 1;
         Ok(number)
     }

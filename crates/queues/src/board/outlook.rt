@@ -5,8 +5,8 @@ ghost use Rattle.queues.specs.Entries.{queues_of};
 ghost use Rattle.queues.specs.Outlooks.{least_onto};
 
 use super::BoardQueues;
-use crate::lesser::lesser;
 use bus::Message;
+use rows::lesser;
 
 impl BoardQueues {
     // The least of the open messages, the early anti-messages and the rest.

@@ -7,9 +7,8 @@ ghost use Rattle.queues.specs.Entries.{queues_of, first_message};
 ghost use Rattle.queues.specs.Memory.{messages_of};
 
 use super::BoardQueues;
-use crate::blank::BLANK;
 use crate::sums::total;
-use bus::{Message, Sent};
+use bus::{BLANK, Message, Sent};
 
 impl BoardQueues {
     // Nothing waits.
@@ -43,22 +42,14 @@ impl BoardQueues {
     pub(crate) fn next(&self) -> Option<Message>
         ensures { result ≡ first_message (queues_of self.now).open_ones }
     {
-        if self.standing < self.count {
-            Some(self.messages[self.standing])
-        } else {
-            None
-        }
+        self.open_ones().first().copied()
     }
 
     // The first standing message.
     pub(crate) fn front(&self) -> Option<Message>
         ensures { result ≡ front_of (queues_of self.now) }
     {
-        if self.standing > 0 {
-            Some(self.messages[0])
-        } else {
-            None
-        }
+        self.messages[..self.standing].first().copied()
     }
 
     // How many messages the committed and the standing events sent.

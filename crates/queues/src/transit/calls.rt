@@ -1,26 +1,18 @@
 // What joins transit, what leaves it, and what is read of it.
 ghost use Rattle.std.specs.Prelude.{◌≡◌, [], ◌∷◌, ◌++◌, map, length, take};
-ghost use Rattle.rows.specs.Rows.{nearer, least, without};
+ghost use Rattle.rows.specs.Rows.{least, without};
 ghost use Rattle.bus.specs.Order.{message_before};
-ghost use Rattle.addressing.specs.Batches.{batched};
+ghost use Rattle.bus.specs.Reactions.{listed};
 ghost use Rattle.model.specs.declared.item.Item.TheVariants.{Plus, Minus};
 ghost use Rattle.model.specs.State.{inside};
 ghost use Rattle.queues.specs.Transits.{on_way, item_at};
 ghost use Rattle.queues.specs.Memory.{messages_of};
 
 use super::Transit;
-use crate::blank::BLANK;
-use crate::lesser::lesser;
 use addressing::Batch;
-use bus::{Message, Sent};
+use bus::{BLANK, Message, Sent};
 use model::Item;
-
-// The lesser of an item's message, of either sign, and of the rest.
-fn nearer_item(item: &Item, rest: Option<Message>) -> Option<Message>
-    ensures { result ≡ nearer message_before (inside item.now) rest }
-{
-    lesser(Some(item.message()), rest)
-}
+use rows::lesser;
 
 impl Transit {
     // Nothing is in transit.
@@ -33,20 +25,23 @@ impl Transit {
         }
     }
 
+    // The items, the oldest first.
+    fn on_way(&self) -> &[Item]
+        ensures { result.now ≡ on_way self.now }
+    {
+        &self.items[..self.count]
+    }
+
     pub fn len(&self) -> usize
         ensures { result ≡ length (on_way self.now) }
     {
-        rows::row(&self.items, self.count).len()
+        self.on_way().len()
     }
 
     pub fn get(&self, index: usize) -> Option<Item>
         ensures { result ≡ item_at (on_way self.now) index }
     {
-        if index < self.count {
-            Some(self.items[index])
-        } else {
-            None
-        }
+        self.on_way().get(index).copied()
     }
 
     // One more item, if there is a place for it.
@@ -61,12 +56,12 @@ impl Transit {
 
     // A batch of messages joins transit; what has no place is dropped.
     pub fn send(&mut self, out: &Batch)
-        ensures { on_way self.new ≡ take 128 (on_way self.old ++ map Plus (batched out.now)) }
+        ensures { on_way self.new ≡ take 128 (on_way self.old ++ map Plus (listed out.now)) }
     {
         match *out {
-            Batch::Empty => {}
-            Batch::Single(message) => self.push(Item::Plus(message)),
-            Batch::Double(first, second) => {
+            Batch::Nothing => {}
+            Batch::One(message) => self.push(Item::Plus(message)),
+            Batch::Two(first, second) => {
                 self.push(Item::Plus(first));
                 self.push(Item::Plus(second));
             }
@@ -93,10 +88,8 @@ impl Transit {
     pub fn least(&self) -> Option<Message>
         ensures { result ≡ least message_before (map inside (on_way self.now)) }
     {
-        let mut best = None;
-        for i in (0..self.count).rev() {
-            best = nearer_item(&self.items[i], best);
-        }
-        best
+        self.on_way()
+            .iter()
+            .rfold(None, |best, item| lesser(Some(item.message()), best))
     }
 }

@@ -1,24 +1,11 @@
--- Each turn, from the end on, either stops at an equal record or passes one more.
-use Rattle.std.proofs.Common.{length, sym, ap, ◌∙◌, arith}
-use Rattle.std.proofs.lemmas.List.{drop_all}
+-- What the chain tells place by place.
+use Rattle.std.proofs.Common.{ap, ◌∙◌, rules}
+use Rattle.rows.specs.Order.{same}
 use Rattle.rows.specs.Rows.{last_of}
-use Rattle.rows.proofs.Steps.{last_here, last_more}
+use Rattle.rows.proofs.Steps.{LastPasses, last_is}
 use Rattle.rows.proofs.search.find_last.Goals as goal
 
-pub loop-i-init : goal.loop-i-init
-loop-i-init g c =
-    let row = c.row-row.result.now in
-    ap (last_of g.T.TotalOrder.earlier c.args.item.now) (drop_all (length row) row (omega arith))
-
-pub returns-then-alike : goal.returns-then-alike
-returns-then-alike g c =
-    let before = g.T.TotalOrder.earlier in
-    let x = c.args.item.now in
-    let row = c.row-row.result.now in
-    sym (last_here before x row c.loop-i.i c.loop-i.invariant c.index-row-i.result (omega arith) (omega arith) c.index-row-i.is (sym c.if-alike.ensures))
-    ∙ ap (last_of before x) c.row-row.ensures
-
-pub loop-i-preserved : goal.loop-i-preserved
-loop-i-preserved g c =
-    let row = c.row-row.result.now in
-    last_more g.T.TotalOrder.earlier c.args.item.now row c.loop-i.i c.loop-i.invariant c.index-row-i.result (omega arith) (omega arith) c.index-row-i.is (sym c.if-alike.ensures)
+pub returns : goal.returns
+returns g c =
+    let told : LastPasses (same g.T.TotalOrder.earlier c.args.item.now) c.row.result.now c.rposition.result = search rules in
+    last_is g.T.TotalOrder.earlier c.args.item.now _ _ told ∙ ap (last_of g.T.TotalOrder.earlier c.args.item.now) c.row.ensures

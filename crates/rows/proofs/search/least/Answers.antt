@@ -1,18 +1,12 @@
--- Each turn, from the end on, takes one more record into account.
-use Rattle.std.proofs.Common.{length, sym, ap, ◌∙◌, arith}
-use Rattle.std.proofs.lemmas.List.{drop_all}
+-- The fold takes one more record into account at each turn, from the end on.
+use Rattle.std.proofs.Common.{◌≡◌, reverse, None, refl, ◌∙◌, arith}
+use Rattle.std.proofs.lemmas.Grind.{common_steps}
+use Rattle.std.specs.List.{fold}
 use Rattle.rows.specs.Rows.{nearer, least}
-use Rattle.rows.proofs.Steps.{drop_back}
+use Rattle.rows.proofs.Folds.{folded_back}
 use Rattle.rows.proofs.search.least.Goals as goal
 
-pub loop-i-init : goal.loop-i-init
-loop-i-init g c =
-    let row = c.args.row.now in
-    sym (ap (least g.T.TotalOrder.earlier) (drop_all (length row) row (omega arith)))
-
-pub loop-i-preserved : goal.loop-i-preserved
-loop-i-preserved g c =
-    let before = g.T.TotalOrder.earlier in
-    let held = c.index-row-i.result in
-    c.nearer-best.ensures ∙ ap (nearer before held) c.loop-i.invariant
-    ∙ sym (ap (least before) (drop_back c.args.row.now c.loop-i.i held (omega arith) (omega arith) c.index-row-i.is))
+pub returns : goal.returns
+returns g c =
+    let e : c.rfold.result ≡ fold (λ best x. nearer g.T.TotalOrder.earlier x best) None (reverse c.args.row.now) = grind (arith, common_steps) in
+    e ∙ folded_back (least g.T.TotalOrder.earlier) (λ best x. nearer g.T.TotalOrder.earlier x best) None refl (λ x xs. refl) c.args.row.now

@@ -16,14 +16,14 @@ two ms n a b h =
     ∙ front_push (take n ms ++ a ∷ []) ms (n + 1) b (length_push (take n ms) a ∙ ap (λ (k : ℕ). k + 1) (length-take-le n ms (omega arith))) (omega arith)
     ∙ ap (λ (row : List Message). in_front row ms) (append_assoc (take n ms) (a ∷ []) (b ∷ []))
 
-pub returns-in-Empty : goal.returns-in-Empty
-returns-in-Empty c =
+pub returns-in-Nothing : goal.returns-in-Nothing
+returns-in-Nothing c =
     let ms = c.args.pending.now in
     let n = c.args.held in
-    rw c.in-Empty.is (record { answer = omega arith; after = sym (ap (λ (row : List Message). in_front row ms) (append-nil (take n ms)) ∙ in_front_own n ms) })
+    rw c.in-Nothing.is (record { answer = omega arith; after = sym (ap (λ (row : List Message). in_front row ms) (append-nil (take n ms)) ∙ in_front_own n ms) })
 
-pub returns-in-Single : goal.returns-in-Single
-returns-in-Single c = rw c.in-Single.is (record { answer = omega arith; after = one c.args.pending.now c.args.held c.in-Single.message (omega (arith, c.requires)) })
+pub returns-in-One : goal.returns-in-One
+returns-in-One c = rw c.in-One.is (record { answer = omega arith; after = one c.args.pending.now c.args.held c.in-One.message (omega (arith, c.requires)) })
 
-pub returns-in-Double : goal.returns-in-Double
-returns-in-Double c = rw c.in-Double.is (record { answer = omega arith; after = two c.args.pending.now c.args.held c.in-Double.first c.in-Double.second c.requires })
+pub returns-in-Two : goal.returns-in-Two
+returns-in-Two c = rw c.in-Two.is (record { answer = omega arith; after = two c.args.pending.now c.args.held c.in-Two.first c.in-Two.second c.requires })

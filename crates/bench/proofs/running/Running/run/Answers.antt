@@ -3,10 +3,9 @@ use Rattle.std.proofs.Common.{◌≡◌, ℕ, ◌+◌, ◌*◌, ◌^◌, ◌<◌
 use Rattle.std.proofs.lemmas.List.{length-set, length-map, length-append, map-set, take_all}
 use Rattle.bus.specs.declared.Message.{Message}
 use Rattle.bus.specs.Reactions.{listed}
-use Rattle.addressing.specs.declared.batch.Batch.{Batch}
-use Rattle.addressing.specs.declared.batch.Batch.TheVariants.{Empty, Single, Double}
+use Rattle.addressing.specs.Batches.{Batch}
+use Rattle.bus.specs.declared.up_to_two.UpToTwo.TheVariants.{Nothing, One, Two}
 use Rattle.addressing.specs.Settings.{addressed_in, addressed}
-use Rattle.addressing.specs.Batches.{batched}
 use Rattle.model.specs.declared.item.Item.TheVariants.{Plus}
 use Rattle.model.specs.State.{Queues, State, Answer, ran, issued}
 use Rattle.queues.specs.Entries.{queues_of, first_message, first_stands, board_in}
@@ -18,17 +17,17 @@ use Rattle.bench.proofs.Reacts.{never_refused, rooms_within, run_is, rest_of, fi
 use Rattle.bench.proofs.running.Running.run.Goals as goal
 
 -- a reaction sends at most two
-two_at_most : (b : Batch) → length (batched b) ≤ 2
-two_at_most Empty = omega arith
-two_at_most (Single m) = omega arith
-two_at_most (Double m n) = omega arith
+two_at_most : (b : Batch) → length (listed b) ≤ 2
+two_at_most Nothing = omega arith
+two_at_most (One m) = omega arith
+two_at_most (Two m n) = omega arith
 
 pub invariant_of-self-2 : goal.invariant_of-self-2
 invariant_of-self-2 g c =
     let b = c.args.self.now in
     let bs = b.table.entries in
     let k = c.from-place.result in
-    let out = batched c.messages-out.result in
+    let out = listed c.messages-out.result in
     let last = c.stand.new.self in
     let old = board_in b.table k in
     let at : old ≡ queues_of (get_or bs k c.index-self-place.result) = board_at bs k c.index-self-place.result (omega arith) in
@@ -65,7 +64,7 @@ returns g c =
     let ek : p ≡ k = c.from-place.ensures in
     let m = c.in-Some.message in
     let sends = c.in-Ok.sends in
-    let out = batched c.messages-out.result in
+    let out = listed c.messages-out.result in
     let last = c.stand.new.self in
     let os : ℕ → List Message = λ i. (board_in b.table i).open_ones in
     let em : first_message (os k) ≡ Some m = ap (λ (i : ℕ). first_message (os i)) (sym ek) ∙ sym c.in-Some.ensures in

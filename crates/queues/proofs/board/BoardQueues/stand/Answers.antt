@@ -3,7 +3,7 @@ use Rattle.std.proofs.Common.{ℕ, ◌+◌, ◌<◌, [], ◌∷◌, ◌++◌, le
 use Rattle.std.proofs.lemmas.List.{take_more_set, length-set}
 use Rattle.queues.specs.Sums.{sum}
 use Rattle.model.specs.Deliver.{no_message}
-use Rattle.addressing.specs.Batches.{batched}
+use Rattle.bus.specs.Reactions.{listed}
 use Rattle.queues.specs.Entries.{outputs_of}
 use Rattle.queues.proofs.Events.{sum_twos, sum_push, twos_set, batch_small, stand_is, noted, outputs_length}
 use Rattle.queues.proofs.board.BoardQueues.stand.Goals as goal
@@ -32,7 +32,7 @@ returns-then-self c =
     let small = batch_small c.args.out.now in
     let twos = sum_twos q.sends q.standing q.twos in
     let outs = outputs_length q in
-    stand_is q.messages q.sends (set q.sends q.standing c.len.result) (outputs_of q) _ q.count q.standing _ q.sent (batched c.args.out.now) no_message
+    stand_is q.messages q.sends (set q.sends q.standing c.len.result) (outputs_of q) _ q.count q.standing _ q.sent (listed c.args.out.now) no_message
     c.if-self.true (omega arith) (omega arith) (q.tallies ∙ sym outs)
     (take_more_set q.sends q.standing c.len.result inside ∙ ap (λ (n : ℕ). take q.standing q.sends ++ (n ∷ [])) c.len.ensures)
-    (noted q.outputs c.note_sent.new.memory q.sent_count (q.sent_count + c.len-then-self.result) _ (batched c.args.out.now) c.note_sent.ensures (omega arith) (omega (arith, q.tallies)))
+    (noted q.outputs c.note_sent.new.memory q.sent_count (q.sent_count + c.len-then-self.result) _ (listed c.args.out.now) c.note_sent.ensures (omega arith) (omega (arith, q.tallies)))
