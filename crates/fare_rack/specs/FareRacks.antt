@@ -12,8 +12,8 @@ use Rattle.boards.specs.contracts.reader.ReaderBoard.TheImpl.{ghosts as reader_b
 use Rattle.boards.specs.contracts.ticker.TickerBoard.TheImpl.{ghosts as ticker_board}
 use Rattle.savers.specs.declared.full_copies.FullCopies.{FullCopies}
 use Rattle.savers.specs.declared.checkpoints.Checkpoints.{Checkpoints}
+use Rattle.rows.specs.Held.{held}
 use Rattle.savers.specs.Rows.{Row}
-use Rattle.savers.specs.Copies.{copied}
 use Rattle.savers.specs.Replays.{replayed}
 use Rattle.racks.specs.declared.one.One.{One}
 use Rattle.racks.specs.declared.pair.Pair.{Pair}
@@ -32,9 +32,9 @@ fare_rows r =
     let computer = r.left.saver in
     let reader = r.right.left.saver in
     let ticker = r.right.right.saver in
-    copied computer.copies computer.held
+    held computer.copies
     ∷ replayed reader_rule reader.checkpoints reader.messages reader.first reader.held
-    ∷ copied ticker.copies ticker.held
+    ∷ held ticker.copies
     ∷ []
 
 -- each board with four zeros, and nothing taken yet

@@ -2,7 +2,7 @@
 use Rattle.std.proofs.Common.{◌≡◌, ℕ, List, ◌++◌, length, take, drop, replicate, Err, sym, refl, ap, ◌∙◌, arith}
 use Rattle.std.proofs.lemmas.List.{length-append, take-append-le, take_all}
 use Rattle.rows.specs.Rows.{in_front}
-use Rattle.rows.proofs.Owned.{take_in_front}
+use Rattle.rows.proofs.Lent.{take_in_front}
 use Rattle.bus.specs.declared.Message.{Message}
 use Rattle.bus.specs.Reactions.{zeros}
 use Rattle.sequential.specs.declared.outcome.Ended.{Ended}

@@ -1,7 +1,8 @@
 -- What arrivals leave of a board's queues.
-use Rattle.std.proofs.Common.{◌≡◌, ℕ, ◌+◌, ◌-◌, ◌≤◌, Bool, true, false, cond, List, [], ◌∷◌, ◌++◌, map, length, take, drop, sym, refl, ap, ◌∙◌, append_assoc, arith, length-drop, length-take}
-use Rattle.std.proofs.lemmas.List.{length-append, length-map, length-take-le, drop_at, take-take, take_all, drop_all, drop-append-le, take-map, drop-map, take-append-drop}
-use Rattle.std.proofs.lemmas.Slice.{between_is}
+use Rattle.std.proofs.Common.{◌≡◌, ℕ, ◌+◌, ◌-◌, ◌≤◌, min, Bool, true, false, cond, List, [], ◌∷◌, ◌++◌, map, length, take, drop, sym, refl, ap, ◌∙◌, append_assoc, arith, length-append, length-drop, length-take}
+use Rattle.std.proofs.lemmas.List.{length-map, drop_at, take-take, drop-append-le, take-map, drop-map, take-append-drop}
+use Rattle.rows.specs.Held.{held}
+use Rattle.rows.proofs.Parts.{take_at_most, drop_at_most}
 use Rattle.bus.specs.declared.Message.{Message}
 use Rattle.bus.specs.declared.Sent.{Sent}
 use Rattle.model.specs.declared.item.Item.{Item}
@@ -14,9 +15,7 @@ use Rattle.queues.specs.Sums.{sum}
 use Rattle.queues.specs.Memory.{messages_of}
 use Rattle.queues.specs.Entries.{events, queues_of, outputs_of}
 use Rattle.queues.specs.Arrivals.{effect_of, stay_by, needs_by}
-use Rattle.queues.proofs.Splits.{row_split}
-use Rattle.queues.proofs.Events.{kept_within, sends_of_events}
-use Rattle.queues.proofs.Memories.{sum_take_le, events_take, even, tally, standing_messages, sends_kept}
+use Rattle.queues.proofs.Memories.{events_take, even, standing_messages, sends_outputs}
 use Rattle.queues.proofs.Searches.{not_after_within}
 
 -- ---- sends of some events
@@ -74,53 +73,37 @@ room_undo p q =
 
 -- ---- a roll-back
 
--- what a cut keeps of the out-row is what the events that stay sent
-pub cut_keeps : (q : BoardQueues) (p kept r : ℕ) → p ≤ q.standing → kept ≡ length (sends_of (take p (queues_of q).standing)) → r ≡ length (take kept (take q.sent_count q.outputs)) → r ≡ sum (take p q.sends)
-cut_keeps q p kept r le ek er =
-    let row = take q.sent_count q.outputs in
-    omega (arith, ek, er, sends_kept q p le, sum_take_le q.sends p q.standing le, q.tallies, kept_within q, q.sized.2, length-take kept row, length-take q.sent_count q.outputs)
-
-pub rolled : (q : BoardQueues) → (p sc : ℕ) → p ≤ q.standing → sc ≡ sum (take p q.sends) →
+-- the queues when only so many events still stand, and the out-row is cut to what they sent
+pub rolled : (q : BoardQueues) → (p kept : ℕ) → kept ≡ sum (take p (held q.sends)) →
     ◌≡◌ {A = Queues}
-    (record { standing = events (take p q.messages) (take p q.sends) (messages_of (take sc q.outputs)); open_ones = take (q.count - p) (drop p q.messages); early = take q.early_count q.early; sent = q.sent })
+    (record { standing = events (take (length (take p (held q.sends))) (held q.messages)) (take p (held q.sends)) (messages_of (take kept (held q.outputs))); open_ones = drop (length (take p (held q.sends))) (held q.messages); early = held q.early; sent = q.sent })
     (undo p (queues_of q))
-rolled q p sc le e =
-    let s = q.standing in
-    let ms = take s q.messages in
-    let ns = take s q.sends in
+rolled q p kept e =
+    let M = held q.messages in
+    let ns = held q.sends in
+    let s = length ns in
+    let ms = take s M in
     let f : Sent → Message = λ x. x.message in
-    let same-ns : take p ns ≡ take p q.sends = take-take p s q.sends le in
-    let below : sc ≤ q.sent_count = omega (arith, e, sum_take_le q.sends p s le, q.tallies) in
-    let outs : take (sum (take p ns)) (outputs_of q) ≡ messages_of (take sc q.outputs) =
-    ap (λ k. take k (outputs_of q)) (ap sum same-ns ∙ sym e) ∙ take-map f sc (take q.sent_count q.outputs) ∙ ap (map f) (take-take sc q.sent_count q.outputs below) in
-    let st : take p (events ms ns (outputs_of q)) ≡ events (take p q.messages) (take p q.sends) (messages_of (take sc q.outputs)) =
-    events_take ms ns (outputs_of q) p
-    ∙ ap (λ x. events x (take p ns) (take (sum (take p ns)) (outputs_of q))) (take-take p s q.messages le)
-    ∙ ap (λ x. events (take p q.messages) x (take (sum (take p ns)) (outputs_of q))) same-ns
-    ∙ ap (events (take p q.messages) (take p q.sends)) outs in
     let g : Event → Message = λ x. x.message in
+    let n = length (take p ns) in
+    let at : n ≡ min p s = length-take p ns in
+    let front : take n M ≡ take p ms = sym (take-take n s M (omega arith)) ∙ take_at_most ms p s n (even q) at in
+    let outs : messages_of (take kept (held q.outputs)) ≡ take (sum (take p ns)) (outputs_of q) = sym (take-map f kept (held q.outputs)) ∙ ap (λ k. take k (outputs_of q)) e in
+    let st : events (take n M) (take p ns) (messages_of (take kept (held q.outputs))) ≡ take p (queues_of q).standing =
+    ap (λ x. events x (take p ns) (messages_of (take kept (held q.outputs)))) front ∙ ap (events (take p ms) (take p ns)) outs
+    ∙ sym (events_take ms ns (outputs_of q) p) in
     let back : map g (drop p (queues_of q).standing) ≡ drop p ms = sym (drop-map g p (queues_of q).standing) ∙ ap (drop p) (standing_messages q) in
-    let ends : take (q.count - p) (drop p q.messages) ≡ drop p ms ++ take (q.count - s) (drop s q.messages) =
-    between_is q.messages p q.count ∙ ap (drop p) (row_split q.messages s q.count q.stands)
-    ∙ drop-append-le p ms (take (q.count - s) (drop s q.messages)) (omega (arith, length-take-le s q.messages (omega (arith, q.fits, q.stands, q.sized.0)))) in
-    let F : List Event → List Message → Queues = λ x y. record { standing = x; open_ones = y; early = take q.early_count q.early; sent = q.sent } in
-    ap (λ x. F x (take (q.count - p) (drop p q.messages))) (sym st)
-    ∙ ap (F (take p (queues_of q).standing)) (ends ∙ ap (λ x. x ++ take (q.count - s) (drop s q.messages)) (sym back))
-
-pub undone_none : (p : ℕ) (q : Queues) → length q.standing ≤ p → q ≡ undo p q
-undone_none p q le =
-    let g : Event → Message = λ x. x.message in
-    let F : List Event → List Message → Queues = λ x y. record { standing = x; open_ones = y; early = q.early; sent = q.sent } in
-    ap (λ x. F x q.open_ones) (sym (take_all p q.standing le))
-    ∙ ap (λ x. F (take p q.standing) (map g x ++ q.open_ones)) (sym (drop_all p q.standing le))
+    let ends : drop n M ≡ drop p ms ++ drop s M =
+    ap (drop n) (sym (take-append-drop s M)) ∙ drop-append-le n ms (drop s M) (omega (arith, at, even q))
+    ∙ ap (λ zs. zs ++ drop s M) (drop_at_most ms p s n (even q) at) in
+    let F : List Event → List Message → Queues = λ x y. record { standing = x; open_ones = y; early = held q.early; sent = q.sent } in
+    ap (λ x. F x (drop n M)) st
+    ∙ ap (F (take p (queues_of q).standing)) (ends ∙ ap (λ x. x ++ drop s M) (sym back))
 
 -- ---- what is recalled
 
-pub sends_outputs : (q : BoardQueues) → sends_of (queues_of q).standing ≡ outputs_of q
-sends_outputs q = sends_of_events (take q.standing q.messages) (take q.standing q.sends) (outputs_of q) (even q) (tally q)
-
-pub recalled_is : (q : BoardQueues) → (p k : ℕ) → k ≡ length (sends_of (take p (queues_of q).standing)) → messages_of (take (q.sent_count - k) (drop k q.outputs)) ≡ sends_of (drop p (queues_of q).standing)
+pub recalled_is : (q : BoardQueues) → (p k : ℕ) → k ≡ length (sends_of (take p (queues_of q).standing)) → messages_of (drop k (held q.outputs)) ≡ sends_of (drop p (queues_of q).standing)
 recalled_is q p k e =
     let f : Sent → Message = λ x. x.message in
-    ap (map f) (between_is q.outputs k q.sent_count) ∙ sym (drop-map f k (take q.sent_count q.outputs))
-    ∙ ap (λ n. drop n (outputs_of q)) e ∙ ap (drop (length (sends_of (take p (queues_of q).standing)))) (sym (sends_outputs q)) ∙ sym (sends_back p (queues_of q).standing)
+    sym (drop-map f k (held q.outputs)) ∙ ap (λ n. drop n (outputs_of q)) e
+    ∙ ap (drop (length (sends_of (take p (queues_of q).standing)))) (sym (sends_outputs q)) ∙ sym (sends_back p (queues_of q).standing)

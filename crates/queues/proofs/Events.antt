@@ -1,18 +1,17 @@
 -- Standing events, split off the outputs.
-use Rattle.std.proofs.Common.{◌≡◌, ℕ, zero, suc, ◌+◌, ◌-◌, ◌*◌, ◌<◌, ◌≤◌, List, [], ◌∷◌, ◌++◌, map, length, get_or, take, drop, set, sym, refl, ap, ◌∙◌, arith}
-use Rattle.std.proofs.lemmas.List.{length-map, map-append, length-drop, length-take-le, take-append-le, drop-append-le, take_all, take_more, take-append-drop, nil_from_length}
+use Rattle.std.proofs.Common.{◌≡◌, ℕ, zero, suc, ◌+◌, ◌-◌, ◌*◌, ◌<◌, ◌≤◌, List, [], ◌∷◌, ◌++◌, map, length, get_or, take, drop, sym, refl, ap, ◌∙◌, arith, length-append, length-drop}
+use Rattle.std.proofs.lemmas.List.{length-map, length-take-le, take-append-le, drop-append-le, take_all, take-take, drop-take, drop-drop, take-append-drop, nil_from_length}
 use Rattle.bus.specs.declared.Message.{Message}
 use Rattle.addressing.specs.Batches.{Batch}
 use Rattle.bus.specs.declared.up_to_two.UpToTwo.TheVariants.{Nothing, One, Two}
+use Rattle.rows.specs.Held.{held}
 use Rattle.queues.specs.Sums.{sum}
 use Rattle.bus.specs.Reactions.{listed}
 use Rattle.model.specs.State.{Event, Queues, sends_of}
 use Rattle.queues.specs.Entries.{events, first_stands, outputs_of}
 use Rattle.bus.specs.declared.Sent.{Sent}
 use Rattle.queues.specs.declared.board.BoardQueues.{BoardQueues}
-use Rattle.queues.specs.Memory.{written, sent_by}
-use Rattle.queues.proofs.Splits.{between_first}
-use Rattle.queues.proofs.Writes.{take_written}
+use Rattle.queues.specs.Memory.{messages_of, sent_by}
 
 pub batch_small : (b : Batch) → length (listed b) ≤ 2
 batch_small Nothing = omega arith
@@ -27,13 +26,6 @@ sum_twos (x ∷ xs) (suc n) h = omega (arith, h 0, sum_twos xs n (λ k. h (suc k
 pub sum_push : (xs : List ℕ) (y : ℕ) → sum (xs ++ (y ∷ [])) ≡ sum xs + y
 sum_push [] y = omega arith
 sum_push (x ∷ xs) y = omega (arith, sum_push xs y)
-
-pub twos_set : (xs : List ℕ) (i y : ℕ) → y ≤ 2 → ((k : ℕ) → get_or xs k 0 ≤ 2) → (k : ℕ) → get_or (set xs i y) k 0 ≤ 2
-twos_set [] i y le h k = omega arith
-twos_set (x ∷ xs) zero y le h zero = le
-twos_set (x ∷ xs) zero y le h (suc k) = h (suc k)
-twos_set (x ∷ xs) (suc i) y le h zero = h 0
-twos_set (x ∷ xs) (suc i) y le h (suc k) = twos_set xs i y le (λ j. h (suc j)) k
 
 pub sends_of_events : (ms : List Message) (ns : List ℕ) (out : List Message) → length ms ≡ length ns → sum ns ≡ length out → sends_of (events ms ns out) ≡ out
 sends_of_events [] [] out e s = sym (nil_from_length out (sym s))
@@ -64,42 +56,42 @@ events_push (x ∷ ms) (y ∷ ns) out m n new e s l =
     let h : List Event → List Event = λ es. record { message = x; sends = take y out } ∷ es in
     ap f t ∙ ap g d ∙ ap h r
 
-pub stand_is : (messages : List Message) (sends sends' : List ℕ) (outs outs' : List Message) (count s : ℕ) (early : List Message) (sent : ℕ) (new : List Message) (d : Message)
-    → s < count → count ≤ length messages → count ≤ length sends → sum (take s sends) ≡ length outs
-    → take (s + 1) sends' ≡ take s sends ++ (length new ∷ []) → outs' ≡ outs ++ new
+take_push : (ms : List Message) (s : ℕ) (m : Message) (rest : List Message) → drop s ms ≡ m ∷ rest → take (s + 1) ms ≡ take s ms ++ (m ∷ [])
+take_push ms s m rest e =
+    sym (take-append-drop s (take (s + 1) ms)) ∙ ap (λ zs. zs ++ drop s (take (s + 1) ms)) (take-take s (s + 1) ms (omega arith))
+    ∙ ap (λ zs. take s ms ++ zs) (drop-take s 1 ms ∙ ap (take 1) e)
+
+drop_push : (ms : List Message) (s : ℕ) (m : Message) (rest : List Message) → drop s ms ≡ m ∷ rest → drop (s + 1) ms ≡ rest
+drop_push ms s m rest e = ap (λ k. drop k ms) (omega arith) ∙ sym (drop-drop 1 s ms) ∙ ap (drop 1) e
+
+-- one more event
+pub stand_is : (ms : List Message) (ns : List ℕ) (outs : List Message) (m : Message) (rest early : List Message) (sent : ℕ) (new : List Message)
+    → drop (length ns) ms ≡ m ∷ rest → length ns ≤ length ms → sum ns ≡ length outs
     → ◌≡◌ {A = Queues}
-    (record { standing = events (take (s + 1) messages) (take (s + 1) sends') outs'; open_ones = take (count - (s + 1)) (drop (s + 1) messages); early = early; sent = sent })
-    (first_stands new (record { standing = events (take s messages) (take s sends) outs; open_ones = take (count - s) (drop s messages); early = early; sent = sent }))
-stand_is messages sends sends' outs outs' count s early sent new d lt le le' tally es eo =
-    let m = get_or messages s d in
-    let em : take (s + 1) messages ≡ take s messages ++ (m ∷ []) = take_more messages s d (omega arith) in
-    let l1 = length-take-le s messages (omega arith) in
-    let l2 = length-take-le s sends (omega arith) in
-    let pushed = events_push (take s messages) (take s sends) outs m (length new) new (omega arith) tally refl in
-    let whole : events (take (s + 1) messages) (take (s + 1) sends') outs' ≡ events (take s messages) (take s sends) outs ++ (record { message = m; sends = new } ∷ []) = rw (em, es, eo) pushed in
-    let f : List Event → Queues = λ xs. record { standing = xs; open_ones = take (count - (s + 1)) (drop (s + 1) messages); early = early; sent = sent } in
-    let g : List Message → Queues = λ xs. first_stands new (record { standing = events (take s messages) (take s sends) outs; open_ones = xs; early = early; sent = sent }) in
-    ap f whole ∙ ap g (sym (between_first messages s count d lt le))
+    (record { standing = events (take (length (ns ++ (length new ∷ []))) ms) (ns ++ (length new ∷ [])) (outs ++ new); open_ones = drop (length (ns ++ (length new ∷ []))) ms; early = early; sent = sent })
+    (first_stands new (record { standing = events (take (length ns) ms) ns outs; open_ones = drop (length ns) ms; early = early; sent = sent }))
+stand_is ms ns outs m rest early sent new at_hand within tally =
+    let s = length ns in
+    let l : length (ns ++ (length new ∷ [])) ≡ s + 1 = length-append ns (length new ∷ []) in
+    let lt : s < length ms = omega (arith, ap length at_hand, length-drop s ms) in
+    let front : take (s + 1) ms ≡ take s ms ++ (m ∷ []) = take_push ms s m rest at_hand in
+    let back : drop (s + 1) ms ≡ rest = drop_push ms s m rest at_hand in
+    let whole : events (take (length (ns ++ (length new ∷ []))) ms) (ns ++ (length new ∷ [])) (outs ++ new) ≡ events (take s ms) ns outs ++ (record { message = m; sends = new } ∷ []) =
+    ap (λ k. events (take k ms) (ns ++ (length new ∷ [])) (outs ++ new)) l
+    ∙ ap (λ zs. events zs (ns ++ (length new ∷ [])) (outs ++ new)) front
+    ∙ events_push (take s ms) ns outs m (length new) new (length-take-le s ms within) tally refl in
+    let F : List Event → List Message → Queues = λ x y. record { standing = x; open_ones = y; early = early; sent = sent } in
+    let g : List Message → Queues = λ xs. first_stands new (F (events (take s ms) ns outs) xs) in
+    ap (λ x. F x (drop (length (ns ++ (length new ∷ []))) ms)) whole
+    ∙ ap (F (events (take s ms) ns outs ++ (record { message = m; sends = new } ∷ []))) (ap (λ k. drop k ms) l ∙ back)
+    ∙ ap g (sym at_hand)
 
-pub kept_within : (q : BoardQueues) → q.sent_count ≤ 64
-kept_within q = omega (arith, sum_twos q.sends q.standing q.twos, q.tallies, q.fits, q.stands)
+pub kept_within : (q : BoardQueues) → length (held q.outputs) ≤ 64
+kept_within q = omega (arith, sum_twos (held q.sends) (length (held q.sends)) q.twos, ap sum (take_all (length (held q.sends)) (held q.sends) (omega arith)), q.tallies, q.fits, q.stands)
 
-pub outputs_length : (q : BoardQueues) → length (outputs_of q) ≡ q.sent_count
-outputs_length q =
-    length-map (take q.sent_count q.outputs) (λ (s : Sent). s.message) ∙ length-take-le q.sent_count q.outputs (omega (arith, kept_within q, q.sized.2))
+pub outputs_length : (q : BoardQueues) → length (outputs_of q) ≡ length (held q.outputs)
+outputs_length q = length-map (held q.outputs) (λ (s : Sent). s.message)
 
-pub messages_sent_by : (cause : Message) (ms : List Message) → map (λ (s : Sent). s.message) (sent_by cause ms) ≡ ms
+pub messages_sent_by : (cause : Message) (ms : List Message) → messages_of (sent_by cause ms) ≡ ms
 messages_sent_by cause [] = refl
 messages_sent_by cause (m ∷ ms) = ap (λ (xs : List Message). m ∷ xs) (messages_sent_by cause ms)
-
-pub noted : (memory memory' : List Sent) (at n : ℕ) (cause : Message) (ms : List Message)
-    → memory' ≡ written memory at (sent_by cause ms) → n ≡ at + length ms → n ≤ length memory
-    → map (λ (s : Sent). s.message) (take n memory') ≡ map (λ (s : Sent). s.message) (take at memory) ++ ms
-noted memory memory' at n cause ms e en le =
-    let by : Message → Sent = λ m. record { message = m; cause = cause } in
-    let l : length (sent_by cause ms) ≡ length ms = length-map ms by in
-    let f : Sent → Message = λ s. s.message in
-    ap (λ (xs : List Sent). map f (take n xs)) e
-    ∙ ap (map f) (take_written memory at (sent_by cause ms) n (omega arith) le)
-    ∙ map-append f (take at memory) (sent_by cause ms)
-    ∙ ap (λ (xs : List Message). map f (take at memory) ++ xs) (messages_sent_by cause ms)

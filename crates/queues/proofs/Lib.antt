@@ -1,7 +1,4 @@
 -- Lemmas.
-pub mod Splits
-pub mod Parts
-pub mod Writes
 pub mod Events
 pub mod Memories
 pub mod Searches
@@ -10,3 +7,4 @@ pub mod Sheds
 pub mod Boards
 pub mod Outlooks
 pub mod Joins
+pub mod Same

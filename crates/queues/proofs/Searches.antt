@@ -1,7 +1,7 @@
 -- What searches in a row say of the rules of arrivals.
 use Rattle.std.proofs.Common.{◌≡◌, ℕ, suc, ◌+◌, ◌≤◌, Bool, true, false, cond, ltb, List, [], ◌∷◌, map, length, take, is_some, Some, None, sym, refl, ap, ◌∙◌, add-one, arith}
 use Rattle.std.proofs.lemmas.Bool.{lt-ltb, true≢false}
-use Rattle.std.proofs.lemmas.List.{length-map, take_all}
+use Rattle.std.proofs.lemmas.List.{length-map}
 use Rattle.std.proofs.lemmas.Bool.Decides.{nat_tests}
 use Rattle.rows.specs.Order.{same}
 use Rattle.rows.specs.Rows.{first_at, first_of, place_of, within, without_one}
@@ -10,9 +10,6 @@ use Rattle.bus.specs.declared.Message.{Message}
 use Rattle.bus.specs.Order.{message_before}
 use Rattle.model.specs.State.{Event}
 use Rattle.model.specs.Deliver.{has, not_after}
-use Rattle.queues.specs.declared.board.BoardQueues.{BoardQueues}
-use Rattle.queues.specs.Entries.{queues_of}
-use Rattle.queues.proofs.Memories.{standing_messages}
 
 ltb_step : (a b : ℕ) → ltb a b ≡ ltb (suc a) (suc b)
 ltb_step a b = grind (arith, nat_tests)
@@ -32,11 +29,8 @@ some_within : (xs : List Message) (at : ℕ) → is_some (within xs at) ≡ ltb 
 some_within xs at = elim (ltb at (length xs)) as (λ b. is_some (cond b (Some at) None) ≡ b) [ true ↦ refl | false ↦ refl ]
 
 -- a search finds what a row has
-found_is : (m : Message) (xs : List Message) → is_some (first_of message_before m xs) ≡ has m xs
+pub found_is : (m : Message) (xs : List Message) → is_some (first_of message_before m xs) ≡ has m xs
 found_is m xs = some_within xs (first_at (same message_before m) xs) ∙ sym (has_at m xs)
-
-pub found_in_all : (m : Message) (xs : List Message) → is_some (first_of message_before m (take (length xs) xs)) ≡ has m xs
-found_in_all m xs = ap (λ ys. is_some (first_of message_before m ys)) (take_all (length xs) xs (omega arith)) ∙ found_is m xs
 
 without_none : (m : Message) (xs : List Message) → has m xs ≡ false → without_one message_before m xs ≡ xs
 without_none m [] e = refl
@@ -60,5 +54,5 @@ not_after_within m es =
     omega (arith, not_after_at m es, place_within message_before m (map (λ (e : Event). e.message) es), length-map es (λ (e : Event). e.message))
 
 -- the place among the standing messages
-pub placed_is : (q : BoardQueues) (m : Message) (r : ℕ) → r ≡ place_of message_before m (take q.standing q.messages) → r ≡ not_after m (queues_of q).standing
-placed_is q m r e = e ∙ ap (place_of message_before m) (sym (standing_messages q)) ∙ sym (not_after_at m (queues_of q).standing)
+pub placed_is : (es : List Event) (m : Message) → place_of message_before m (map (λ (e : Event). e.message) es) ≡ not_after m es
+placed_is es m = sym (not_after_at m es)

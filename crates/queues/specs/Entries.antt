@@ -1,5 +1,6 @@
 -- What the memory of boards' queues stands for.
-use Rattle.std.specs.Prelude.{ℕ, ◌-◌, List, [], ◌∷◌, map, take, drop, Some, None, Option, slice_index_or}
+use Rattle.std.specs.Prelude.{ℕ, List, [], ◌∷◌, length, map, take, drop, Some, None, Option, slice_index_or}
+use Rattle.rows.specs.Held.{held}
 use Rattle.bus.specs.declared.Message.{Message}
 use Rattle.model.specs.State.{Event, Queues, no_queues}
 use Rattle.model.specs.Run.{stood}
@@ -14,13 +15,14 @@ events (m ∷ ms) [] out = []
 events (m ∷ ms) (n ∷ ns) out = record { message = m; sends = take n out } ∷ events ms ns (drop n out)
 
 abbrev pub outputs_of : BoardQueues → List Message
-outputs_of q = messages_of (take q.sent_count q.outputs)
+outputs_of q = messages_of (held q.outputs)
 
+-- as many events stand as there are numbers of sends
 abbrev pub queues_of : BoardQueues → Queues
 queues_of q = record {
-  standing = events (take q.standing q.messages) (take q.standing q.sends) (outputs_of q);
-  open_ones = take (q.count - q.standing) (drop q.standing q.messages);
-  early = take q.early_count q.early;
+  standing = events (take (length (held q.sends)) (held q.messages)) (held q.sends) (outputs_of q);
+  open_ones = drop (length (held q.sends)) (held q.messages);
+  early = held q.early;
   sent = q.sent;
 }
 

@@ -9,4 +9,7 @@ pub mod Removed
 pub mod Folds
 pub mod Found
 pub mod Minimum
-pub mod Owned
+pub mod Lent
+pub mod Parts
+pub mod Placed
+pub mod Within

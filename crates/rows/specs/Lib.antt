@@ -1,4 +1,5 @@
 -- What the contracts of rows cite.
+pub mod Held
 pub mod Numbers
 pub mod Order
 pub mod Refusals

@@ -1,4 +1,4 @@
-// Rows of bytes: empty and full ones, counts beyond the memory, places past the end.
+// Rows of bytes: empty and full ones, counts beyond the memory, places past the end, and one that owns its memory.
 ghost use Rattle.std.specs.Prelude.{nat_lt};
 ghost use Rattle.rows.specs.Numbers.{total_numbers};
 
@@ -46,4 +46,20 @@ fn nothing_is_dropped_past_the_end(rt: HostRuntime) {
     assert!(rt; remove(&mut memory, 2, 2) == 2);
     assert!(rt; shed(&mut memory, 2, 7) == 0);
     assert!(rt; memory == [3, 5, 9]);
+}
+
+#[test]
+fn a_row_puts_behind_a_place_until_it_is_full(rt: HostRuntime) {
+    let mut row: Row<u8, 4> = Row::empty(0);
+    row.push(9);
+    assert!(rt; matches!(row.put_from(1, 5), Ok(())));
+    assert!(rt; matches!(row.put_from(1, 3), Ok(())));
+    assert!(rt; matches!(row.put_from(7, 1), Ok(())));
+    assert!(rt; matches!(row.put_from(0, 2), Err(Refusal::Full)));
+    row.push(2);
+    assert!(rt; row.as_slice() == [9, 3, 5, 1].as_slice());
+    row.remove(0);
+    row.cut(2);
+    row.shed(1);
+    assert!(rt; row.as_slice() == [5].as_slice() && row.len() == 1);
 }

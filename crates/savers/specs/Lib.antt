@@ -1,6 +1,5 @@
 -- The definitions that the contracts cite.
 pub mod Rows
-pub mod Copies
 pub mod Replays
 pub mod Refusals
 pub mod ReplaysLemmas

@@ -1,86 +1,82 @@
 // A saver that keeps a full copy of every quadruple of words in its row.
-ghost use Rattle.std.specs.Prelude.{◌≡◌, ℕ, ◌≤◌, [], ◌∷◌, length};
-ghost use Rattle.savers.specs.Rows.{capacity, longest};
-ghost use Rattle.savers.specs.Copies.{copied};
-ghost use Rattle.std.proofs.Common.{rules, arith};
+ghost use Rattle.std.specs.Prelude.{◌≡◌, ◌≤◌, [], ◌∷◌, length};
+ghost use Rattle.rows.specs.Held.{held};
+ghost use Rattle.rows.proofs.Within.{held_within};
 
 use super::refusal::Refusal;
 use super::saver::{CAPACITY, Saver};
 use boards::Board;
 use bus::{Message, Sends, Words};
+use rows::Row;
 
 const COPIES: usize = CAPACITY + 1;
 
-// The row is the start's copy and the copies held after it. The board only reacts: between calls its own words mean nothing.
+// The copies are the row: the start's, and those after each message. The board only reacts: between calls its own words mean nothing.
 #[derive(Drop)]
 pub struct FullCopies<B: Board> {
     board: B,
-    copies: [Words; COPIES],
-    held: usize,
-    ghost within: { held ≤ capacity },
-    ghost sized: { length copies ≡ longest },
+    copies: Row<Words, COPIES>,
+    ghost started: { 1 ≤ length (held copies) },
 }
 
 impl<B: Board> FullCopies<B> {
     // A saver whose start is the board's words.
     pub fn new(board: B) -> Self
-        ensures { copied result.copies result.held ≡ B.Board.state board ∷ [] }
+        ensures { held result.copies ≡ B.Board.state board ∷ [] }
     {
-        FullCopies {
-            board,
-            copies: [board.words(); COPIES],
-            held: 0,
-        }
+        let mut copies = Row::empty(board.words());
+        copies.push(board.words());
+        FullCopies { board, copies }
     }
 }
 
 impl<B: Board> Saver for FullCopies<B> {
     ghost rule = { B.Board.rule };
 
-    ghost row = { λ s. copied s.copies s.held };
+    ghost row = { λ s. held s.copies };
 
-    ghost begun = { first_of (Prim.search rules, Prim.grind (arith, Self.row.coded.inj)) };
+    ghost begun = { λ s. s.started };
 
-    ghost bounded = { first_of (Prim.search rules, Prim.grind (arith, Self.row.coded.inj)) };
+    ghost bounded = { λ s. held_within s.copies };
 
     fn begin(&mut self, start: Words) {
-        self.copies[0] = start;
-        self.held = 0;
+        self.copies.cut(0);
+        self.copies.push(start);
     }
 
     fn take(&mut self, message: &Message) -> Result<Sends, Refusal> {
-        if self.held >= CAPACITY {
+        if self.held() >= CAPACITY {
             return Err(Refusal::Full);
         }
-        self.board.load(self.copies[self.held]);
+        let words = self.words();
+        self.board.load(words);
         let sends = self.board.react(message);
-        self.held += 1;
-        self.copies[self.held] = self.board.words();
+        let words = self.board.words();
+        self.copies.push(words);
         Ok(sends)
     }
 
     fn back(&mut self, n: usize) -> Result<(), Refusal> {
-        if n > self.held {
+        if n > self.held() {
             return Err(Refusal::TooFew);
         }
-        self.held = n;
+        self.copies.cut(n + 1);
         Ok(())
     }
 
     fn forget(&mut self, n: usize) -> Result<(), Refusal> {
-        if n > self.held {
+        if n > self.held() {
             return Err(Refusal::TooFew);
         }
-        self.copies.copy_within(n..self.held + 1, 0);
-        self.held -= n;
+        self.copies.shed(n);
         Ok(())
     }
 
     fn words(&self) -> Words {
-        self.copies[self.held]
+        self.copies.as_slice()[self.held()]
     }
 
     fn held(&self) -> usize {
-        self.held
+        self.copies.len() - 1
     }
 }

@@ -4,7 +4,7 @@ use Rattle.std.proofs.lemmas.Bool.{cases_lt}
 use Rattle.std.proofs.lemmas.List.{length-take, length-take-le, length-map, get_or_past, get_or-replicate, take-replicate}
 use Rattle.rows.specs.Rows.{least, without_one, in_front}
 use Rattle.rows.proofs.Laws.{take_own}
-use Rattle.rows.proofs.Owned.{take_in_front}
+use Rattle.rows.proofs.Lent.{take_in_front}
 use Rattle.bus.specs.declared.Message.{Message}
 use Rattle.bus.specs.declared.Words.{Words}
 use Rattle.bus.specs.Order.{message_before}

@@ -4,7 +4,7 @@ use lib.Seq.{take-set-lt}
 use Rattle.std.proofs.lemmas.Bool.{false≢true, cases_lt, cases_eq, cases_Bool, lt-ltb, le-ltb, leb-false, cond-true, cond-false}
 use Rattle.std.proofs.lemmas.List.{length-set, length-append, length-take-le, length_push, get_or-take, get_or-set_same, get_or-set_other}
 use Rattle.rows.specs.Rows.{least, without_one, in_front}
-use Rattle.rows.proofs.Owned.{take_in_front}
+use Rattle.rows.proofs.Lent.{take_in_front}
 use Rattle.bus.specs.declared.Message.{Message}
 use Rattle.bus.specs.declared.Words.{Words}
 use Rattle.bus.specs.Order.{message_before, message_total}

@@ -1,6 +1,6 @@
 // What arrivals do to a board's queues.
 ghost use Rattle.std.specs.Prelude.{◌≡◌, ◌<◌, true};
-ghost use Rattle.model.specs.Deliver.{room, arrive};
+ghost use Rattle.model.specs.Deliver.{not_after, room, arrive};
 ghost use Rattle.queues.specs.Entries.{queues_of};
 ghost use Rattle.queues.specs.Arrivals.{effect_of, plan_of, arrived};
 
@@ -8,27 +8,35 @@ use super::BoardQueues;
 use crate::effect::Effect;
 use crate::held::holds;
 use crate::plan::Plan;
+use bus::Message;
 use model::Item;
 
 impl BoardQueues {
+    // How many standing messages are not after this one.
+    fn place(&self, message: &Message) -> usize
+        ensures { result ≡ not_after message.now (queues_of self.now).standing }
+    {
+        let standing = self.standing_ones();
+        rows::place(standing, standing.len(), message)
+    }
+
     // What an arrival does.
     fn effect(&self, item: &Item) -> Effect
         ensures { result ≡ effect_of item.now (queues_of self.now) }
     {
         match item {
             Item::Plus(message) => {
-                if holds(rows::row(&self.early, self.early_count), message) {
+                if holds(self.early.as_slice(), message) {
                     Effect::MeetsEarly
                 } else {
-                    Effect::Opens(rows::place(&self.messages, self.standing, message))
+                    Effect::Opens(self.place(message))
                 }
             }
             Item::Minus(message) => {
                 if holds(self.open_ones(), message) {
                     Effect::Withdraws
-                } else if holds(rows::row(&self.messages, self.standing), message) {
-                    let behind = rows::place(&self.messages, self.standing, message);
-                    Effect::Undoes(behind.saturating_sub(1))
+                } else if holds(self.standing_ones(), message) {
+                    Effect::Undoes(self.place(message).saturating_sub(1))
                 } else {
                     Effect::Waits
                 }
@@ -41,13 +49,14 @@ impl BoardQueues {
         ensures { result ≡ plan_of item.now (queues_of self.now) }
     {
         let effect = self.effect(item);
-        let stay = effect.stay(self.standing);
+        let standing = self.standing();
+        let stay = effect.stay(standing);
         let full = self.is_full();
         Plan {
             stay,
             full: effect.needs_place() && full,
-            recalled: self.sent_count - self.sent_by(stay),
-            undone: self.standing - stay,
+            recalled: self.outputs.len() - self.sent_by(stay),
+            undone: standing - stay,
         }
     }
 

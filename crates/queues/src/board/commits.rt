@@ -11,11 +11,10 @@ impl BoardQueues {
     pub fn shed(&mut self)
         ensures { issued (queues_of self.old) < 2 ^ 32 → queues_of self.new ≡ shed 1 (queues_of self.old) }
     {
-        if self.standing > 0 {
-            let gone = self.sends[0];
-            self.count = rows::shed(&mut self.messages, self.count, 1);
-            self.standing = rows::shed(&mut self.sends, self.standing, 1);
-            self.sent_count = rows::shed(&mut self.outputs, self.sent_count, usize::from(gone));
+        if let Some(gone) = self.sends.as_slice().first().copied() {
+            self.messages.shed(1);
+            self.sends.shed(1);
+            self.outputs.shed(usize::from(gone));
             self.sent = self.sent.saturating_add(u32::from(gone));
         }
     }

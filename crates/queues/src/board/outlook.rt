@@ -13,7 +13,7 @@ impl BoardQueues {
     pub(crate) fn outlook(&self, rest: Option<Message>) -> Option<Message>
         ensures { result ≡ least_onto (open_and_early (queues_of self.now)) rest }
     {
-        let early = rows::least(rows::row(&self.early, self.early_count));
+        let early = rows::least(self.early.as_slice());
         let open = rows::least(self.open_ones());
         lesser(open, lesser(early, rest))
     }

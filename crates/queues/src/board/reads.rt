@@ -1,6 +1,6 @@
 // What is read of one board's queues.
 ghost use Rattle.std.specs.Prelude.{◌≡◌, ◌+◌, length, take, drop, nat_le};
-ghost use Rattle.model.specs.State.{no_queues, issued, sends_of};
+ghost use Rattle.model.specs.State.{no_queues, issued, sends_of, standing_of};
 ghost use Rattle.model.specs.Deliver.{room};
 ghost use Rattle.model.specs.Lines.{front_of};
 ghost use Rattle.queues.specs.Entries.{queues_of, first_message};
@@ -9,6 +9,7 @@ ghost use Rattle.queues.specs.Memory.{messages_of};
 use super::BoardQueues;
 use crate::sums::total;
 use bus::{BLANK, Message, Sent};
+use rows::Row;
 
 impl BoardQueues {
     // Nothing waits.
@@ -16,17 +17,13 @@ impl BoardQueues {
         ensures { queues_of result ≡ no_queues }
     {
         BoardQueues {
-            messages: [BLANK; 32],
-            sends: [0; 32],
-            outputs: [Sent {
+            messages: Row::empty(BLANK),
+            sends: Row::empty(0),
+            outputs: Row::empty(Sent {
                 message: BLANK,
                 cause: BLANK,
-            }; 64],
-            early: [BLANK; 32],
-            count: 0,
-            standing: 0,
-            sent_count: 0,
-            early_count: 0,
+            }),
+            early: Row::empty(BLANK),
             sent: 0,
         }
     }
@@ -35,7 +32,21 @@ impl BoardQueues {
     pub(super) fn open_ones(&self) -> &[Message]
         ensures { result.now ≡ (queues_of self.now).open_ones }
     {
-        &self.messages[self.standing..self.count]
+        &self.messages.as_slice()[self.sends.len()..]
+    }
+
+    // The messages of the standing events.
+    pub(super) fn standing_ones(&self) -> &[Message]
+        ensures { result.now ≡ standing_of (queues_of self.now) }
+    {
+        &self.messages.as_slice()[..self.sends.len()]
+    }
+
+    // How many events stand.
+    pub(super) fn standing(&self) -> usize
+        ensures { result ≡ length (queues_of self.now).standing }
+    {
+        self.sends.len()
     }
 
     // The first open message.
@@ -49,39 +60,35 @@ impl BoardQueues {
     pub(crate) fn front(&self) -> Option<Message>
         ensures { result ≡ front_of (queues_of self.now) }
     {
-        self.messages[..self.standing].first().copied()
+        self.standing_ones().first().copied()
     }
 
     // How many messages the committed and the standing events sent.
     pub(crate) fn issued(&self) -> u64
         ensures { result ≡ issued (queues_of self.now) }
     {
-        u64::from(self.sent) + self.sent_count as u64
+        u64::from(self.sent) + self.outputs.len() as u64
     }
 
     // Whether there is no place left.
     pub(super) fn is_full(&self) -> bool
         ensures { result ≡ nat_le 32 (room (queues_of self.now)) }
     {
-        self.count + self.early_count >= 32
+        self.messages.len() + self.early.len() >= 32
     }
 
     // How many messages the first standing events sent.
     pub(super) fn sent_by(&self, stay: usize) -> usize
         ensures { result ≡ length (sends_of (take stay (queues_of self.now).standing)) }
     {
-        if stay < self.standing {
-            total(rows::row(&self.sends, stay))
-        } else {
-            self.sent_count
-        }
+        let sends = self.sends.as_slice();
+        total(&sends[..stay.min(sends.len())])
     }
 
     // What the standing events from a place on sent.
     pub(crate) fn sends_from(&self, stay: usize) -> &[Sent]
         ensures { messages_of result.now ≡ sends_of (drop stay (queues_of self.now).standing) }
     {
-        let kept = self.sent_by(stay);
-        &self.outputs[kept..self.sent_count]
+        &self.outputs.as_slice()[self.sent_by(stay)..]
     }
 }

@@ -12,12 +12,9 @@ impl BoardQueues {
     pub fn stand(&mut self, out: &Batch)
         ensures { queues_of self.new ≡ first_stands (listed out.now) (queues_of self.old) }
     {
-        if self.standing < self.count {
-            let cause = self.messages[self.standing];
-            note_sent(&mut self.outputs, self.sent_count, cause, out);
-            self.sends[self.standing] = out.len() as u8;
-            self.sent_count += out.len();
-            self.standing += 1;
+        if let Some(cause) = self.next() {
+            note_sent(&mut self.outputs, cause, out);
+            self.sends.push(out.len() as u8);
         }
     }
 }

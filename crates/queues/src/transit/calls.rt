@@ -12,7 +12,7 @@ use super::Transit;
 use addressing::Batch;
 use bus::{BLANK, Message, Sent};
 use model::Item;
-use rows::lesser;
+use rows::{Row, lesser};
 
 impl Transit {
     // Nothing is in transit.
@@ -20,38 +20,20 @@ impl Transit {
         ensures { on_way result ≡ [] }
     {
         Transit {
-            items: [Item::Plus(BLANK); 128],
-            count: 0,
+            items: Row::empty(Item::Plus(BLANK)),
         }
-    }
-
-    // The items, the oldest first.
-    fn on_way(&self) -> &[Item]
-        ensures { result.now ≡ on_way self.now }
-    {
-        &self.items[..self.count]
     }
 
     pub fn len(&self) -> usize
         ensures { result ≡ length (on_way self.now) }
     {
-        self.on_way().len()
+        self.items.len()
     }
 
     pub fn get(&self, index: usize) -> Option<Item>
         ensures { result ≡ item_at (on_way self.now) index }
     {
-        self.on_way().get(index).copied()
-    }
-
-    // One more item, if there is a place for it.
-    fn push(&mut self, item: Item)
-        ensures { on_way self.new ≡ take 128 (on_way self.old ++ item ∷ []) }
-    {
-        if self.count < 128 {
-            self.items[self.count] = item;
-            self.count += 1;
-        }
+        self.items.as_slice().get(index).copied()
     }
 
     // A batch of messages joins transit; what has no place is dropped.
@@ -60,10 +42,10 @@ impl Transit {
     {
         match *out {
             Batch::Nothing => {}
-            Batch::One(message) => self.push(Item::Plus(message)),
+            Batch::One(message) => self.items.push(Item::Plus(message)),
             Batch::Two(first, second) => {
-                self.push(Item::Plus(first));
-                self.push(Item::Plus(second));
+                self.items.push(Item::Plus(first));
+                self.items.push(Item::Plus(second));
             }
         }
     }
@@ -73,7 +55,7 @@ impl Transit {
         ensures { on_way self.new ≡ take 128 (on_way self.old ++ map Minus (messages_of sends.now)) }
     {
         for sent in sends {
-            self.push(Item::Minus(sent.message));
+            self.items.push(Item::Minus(sent.message));
         }
     }
 
@@ -81,14 +63,15 @@ impl Transit {
     pub fn remove(&mut self, index: usize)
         ensures { on_way self.new ≡ without index (on_way self.old) }
     {
-        self.count = rows::remove(&mut self.items, self.count, index);
+        self.items.remove(index);
     }
 
     // The least message in transit, of either sign.
     pub fn least(&self) -> Option<Message>
         ensures { result ≡ least message_before (map inside (on_way self.now)) }
     {
-        self.on_way()
+        self.items
+            .as_slice()
             .iter()
             .rfold(None, |best, item| lesser(Some(item.message()), best))
     }

@@ -2,7 +2,7 @@
 use Rattle.std.proofs.Common.{◌≡◌, ◌++◌, take, vec_items, vec_len, sym, ap, ◌∙◌}
 use Rattle.std.proofs.lemmas.Result.{err_from_is_err_and}
 use Rattle.rows.specs.Rows.{in_front}
-use Rattle.rows.proofs.Owned.{take_in_front}
+use Rattle.rows.proofs.Lent.{take_in_front}
 use Rattle.oracle.proofs.Whole.{whole_run}
 use Rattle.oracle.proofs.runs.run_on.Goals as goal
 

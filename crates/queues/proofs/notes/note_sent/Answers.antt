@@ -1,24 +1,24 @@
--- Each batch is written from the place on.
-use Rattle.std.proofs.Common.{◌+◌, ◌≤◌, length, sym, ap, ◌∙◌, arith}
+-- No note, or two, each cut to the places there are.
+use Rattle.std.proofs.Common.{[], ◌∷◌, ◌++◌, take, sym, ap, ◌∙◌}
+use Rattle.std.proofs.lemmas.List.{take_all, append-nil}
+use Rattle.rows.specs.Held.{held}
+use Rattle.rows.proofs.Within.{held_within}
 use Rattle.addressing.specs.Batches.{Batch}
 use Rattle.bus.specs.Reactions.{listed}
-use Rattle.queues.specs.Memory.{written, sent_by}
-use Rattle.queues.proofs.Writes.{written_none, written_one, written_two}
+use Rattle.bus.specs.declared.Sent.{Sent}
+use Rattle.queues.specs.Memory.{sent_by}
+use Rattle.queues.proofs.Joins.{cut_more}
 use Rattle.queues.proofs.notes.note_sent.Goals as goal
 
 pub returns-in-Nothing : goal.returns-in-Nothing
 returns-in-Nothing c =
-    written_none c.args.memory.now c.args.at (omega arith)
-    ∙ ap (λ (b : Batch). written c.args.memory.now c.args.at (sent_by c.args.cause (listed b))) (sym c.in-Nothing.is)
-
-pub returns-in-One : goal.returns-in-One
-returns-in-One c =
-    let l : c.args.at + 1 ≤ length c.args.memory.now = simp c.in-One.is at c.requires in
-    written_one c.args.memory.now c.args.at _ l
-    ∙ ap (λ (b : Batch). written c.args.memory.now c.args.at (sent_by c.args.cause (listed b))) (sym c.in-One.is)
+    let row = held c.args.row.now in
+    sym (ap (λ (b : Batch). take 64 (row ++ sent_by c.args.cause (listed b))) c.in-Nothing.is ∙ ap (take 64) (append-nil row) ∙ take_all 64 row (held_within c.args.row.now))
 
 pub returns-in-Two : goal.returns-in-Two
 returns-in-Two c =
-    let l : c.args.at + 2 ≤ length c.args.memory.now = simp c.in-Two.is at c.requires in
-    written_two c.args.memory.now c.args.at _ _ l
-    ∙ ap (λ (b : Batch). written c.args.memory.now c.args.at (sent_by c.args.cause (listed b))) (sym c.in-Two.is)
+    let row = held c.args.row.now in
+    let first : Sent = record { message = c.in-Two.first; cause = c.args.cause } in
+    let second : Sent = record { message = c.in-Two.second; cause = c.args.cause } in
+    c.push-in-Two-2.ensures ∙ cut_more 64 row (first ∷ []) second (held c.push-in-Two.new.self) c.push-in-Two.ensures
+    ∙ sym (ap (λ (b : Batch). take 64 (row ++ sent_by c.args.cause (listed b))) c.in-Two.is)

@@ -13,6 +13,6 @@ returns c =
     let q = queues_of c.args.self.now in
     let rest = c.args.rest in
     let inner : c.lesser.result ≡ least_onto q.early rest =
-    c.lesser.ensures ∙ ap (λ (o : Option Message). lesser message_before o rest) (c.least-early.ensures ∙ ap (least message_before) c.row.ensures) ∙ lesser_least q.early rest in
+    c.lesser.ensures ∙ ap (λ (o : Option Message). lesser message_before o rest) (c.least-early.ensures ∙ ap (least message_before) c.as_slice.ensures) ∙ lesser_least q.early rest in
     c.lesser-2.ensures ∙ ap (λ (o : Option Message). lesser message_before o c.lesser.result) (c.least-open.ensures ∙ ap (least message_before) c.open_ones.ensures)
     ∙ lesser_least q.open_ones c.lesser.result ∙ ap (least_onto q.open_ones) inner ∙ sym (onto_append q.open_ones q.early rest)

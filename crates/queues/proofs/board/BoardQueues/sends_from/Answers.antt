@@ -1,30 +1,29 @@
 -- What is behind the first events' sends in the out-row.
-use Rattle.std.proofs.Common.{arith}
+use Rattle.std.proofs.Common.{◌≡◌, ◌-◌, ◌≤◌, length, take, drop, ap, ◌∙◌, arith, length-drop}
+use Rattle.std.proofs.lemmas.List.{take_all}
+use Rattle.rows.specs.Held.{held}
 use Rattle.queues.specs.Entries.{queues_of}
-use Rattle.queues.proofs.Memories.{sends_all}
+use Rattle.queues.specs.Memory.{messages_of}
+use Rattle.queues.proofs.Memories.{sends_kept, sum_take_le}
 use Rattle.queues.proofs.Events.{kept_within}
-use Rattle.queues.proofs.Changes.{recalled_is, sends_count}
+use Rattle.queues.proofs.Changes.{recalled_is}
 use Rattle.queues.proofs.board.BoardQueues.sends_from.Goals as goal
 
-pub offset_bounds-self-kept : goal.offset_bounds-self-kept
-offset_bounds-self-kept c =
-    let q = c.args.self.now in
-    omega (arith, c.sent_by-kept.ensures, sends_count c.args.stay (queues_of q).standing, sends_all q, kept_within q)
+within : (c : goal.After-sent_by) → c.sent_by.result ≤ length (held c.args.self.now.outputs)
+within c = let q = c.args.self.now in omega (arith, c.sent_by.ensures, sends_kept q c.args.stay, sum_take_le (held q.sends) c.args.stay, q.tallies)
+
+pub offset_bounds-as_slice-sent_by : goal.offset_bounds-as_slice-sent_by
+offset_bounds-as_slice-sent_by c = omega (arith, within c, kept_within c.args.self.now)
 
 pub slice_bounds-result-count : goal.slice_bounds-result-count
-slice_bounds-result-count c =
-    let q = c.args.self.now in
-    omega (arith, c.sent_by-kept.ensures, sends_count c.args.stay (queues_of q).standing, sends_all q)
+slice_bounds-result-count c = omega (arith, within c, ap length c.as_slice.ensures)
 
 pub slice_bounds-result-start : goal.slice_bounds-result-start
-slice_bounds-result-start c =
-    let q = c.args.self.now in
-    omega (arith, c.sent_by-kept.ensures, sends_count c.args.stay (queues_of q).standing, sends_all q)
-
-pub slice_bounds-result-end : goal.slice_bounds-result-end
-slice_bounds-result-end c = omega (arith, kept_within c.args.self.now)
+slice_bounds-result-start c = omega (arith, within c, ap length c.as_slice.ensures)
 
 pub returns : goal.returns
 returns c =
     let q = c.args.self.now in
-    recalled_is q c.args.stay c.sent_by-kept.result c.sent_by-kept.ensures
+    let k = c.sent_by.result in
+    let row = c.as_slice.result.now in
+    ap messages_of (take_all (length row - k) (drop k row) (omega (arith, length-drop k row)) ∙ ap (drop k) c.as_slice.ensures) ∙ recalled_is q c.args.stay k c.sent_by.ensures

@@ -1,43 +1,40 @@
 -- The first event goes, and what it sent.
-use Rattle.std.proofs.Common.{◌≡◌, ℕ, ◌+◌, ◌<◌, length, get_or, take, drop, ap, ◌∙◌, arith}
-use Rattle.rows.specs.Rows.{in_front}
+use Rattle.std.proofs.Common.{◌≡◌, ℕ, ◌+◌, ◌<◌, ◌≤◌, List, [], ◌∷◌, length, get_or, drop, refl, sym, ap, ◌∙◌, arith, rules, length-drop}
+use Rattle.rows.specs.Held.{held}
 use Rattle.queues.specs.Sums.{sum}
-use Rattle.queues.proofs.Events.{kept_within}
-use Rattle.queues.proofs.Memories.{issued_is}
-use Rattle.queues.proofs.Sheds.{sum_first, sends_first, shed_is, small_shed, left_count, left_row}
+use Rattle.queues.proofs.Memories.{tally, issued_is}
+use Rattle.queues.proofs.Sheds.{small_drop, shed_is}
+use Rattle.queues.proofs.Same.{same_queues, twos_by}
 use Rattle.queues.proofs.board.BoardQueues.shed.Goals as goal
+
+some : (c : goal.After-saturating_add-self) → 0 < length (held c.args.self.now.sends)
+some c = search rules
+
+first : (c : goal.After-saturating_add-self) → c.in-Some.gone ≡ get_or (held c.args.self.now.sends) 0 0
+first c = search rules
+
+rest : (ns : List ℕ) → 0 < length ns → sum ns ≡ get_or ns 0 0 + sum (drop 1 ns)
+rest [] lt = absurd (omega arith)
+rest (n ∷ ns) lt = refl
 
 pub invariant_of-self : goal.invariant_of-self
 invariant_of-self c =
     let q = c.args.self.now in
-    let lt : 0 < q.standing = omega arith in
-    let n = c.shed-self.result in
-    let s = c.shed-self-then-self-gt0.result in
-    let k = c.shed-self-then-self-gt0-2.result in
-    let ec = left_count 1 q.count n q.messages (omega (arith, q.fits, q.sized.0)) c.shed-self.ensures.answer in
-    let es = left_count 1 q.standing s q.sends (omega (arith, q.fits, q.stands, q.sized.1)) c.shed-self-then-self-gt0.ensures.answer in
-    let ek = left_count c.from.result q.sent_count k q.outputs (omega (arith, kept_within q, q.sized.2)) c.shed-self-then-self-gt0-2.ensures.answer in
-    let row = left_row 1 q.standing s q.sends c.shed-self-then-self-gt0.new.memory c.shed-self-then-self-gt0.ensures.answer c.shed-self-then-self-gt0.ensures.after in
-    let tally : sum (take s c.shed-self-then-self-gt0.new.memory) ≡ k = ap sum (row ∙ ap (drop 1) (sends_first q lt)) ∙ omega (arith, sum_first q lt, ek, c.from.ensures) in
-    record { sized = (omega arith, omega arith, omega arith, omega arith); fits = omega (arith, ec, q.fits); stands = omega (arith, ec, es, q.stands); tallies = tally; twos = small_shed 1 q.standing q.sends c.shed-self-then-self-gt0.new.memory c.shed-self-then-self-gt0.ensures.after q.twos }
+    let ns = held q.sends in
+    let M = held q.messages in
+    record {
+      fits = omega (arith, ap length c.shed.ensures, length-drop 1 M, q.fits);
+      stands = omega (arith, ap length c.shed.ensures, length-drop 1 M, ap length c.shed-in-Some.ensures, length-drop 1 ns, q.stands);
+      tallies = omega (arith, ap sum c.shed-in-Some.ensures, rest ns (some c), first c, c.from.ensures, ap length c.shed-in-Some-2.ensures, length-drop c.from.result (held q.outputs), q.tallies);
+      twos = twos_by _ _ c.shed-in-Some.ensures (small_drop 1 ns q.twos);
+    }
 
-pub returns-then-self-gt0 : goal.returns-then-self-gt0
-returns-then-self-gt0 c few =
+pub returns-in-Some : goal.returns-in-Some
+returns-in-Some c few =
     let q = c.args.self.now in
-    let lt : 0 < q.standing = omega arith in
-    let g = get_or q.sends 0 0 in
-    let n = c.shed-self.result in
-    let s = c.shed-self-then-self-gt0.result in
-    let k = c.shed-self-then-self-gt0-2.result in
-    let from : c.from.result ≡ g = c.from.ensures in
-    let ec = left_count 1 q.count n q.messages (omega (arith, q.fits, q.sized.0)) c.shed-self.ensures.answer in
-    let es = left_count 1 q.standing s q.sends (omega (arith, q.fits, q.stands, q.sized.1)) c.shed-self-then-self-gt0.ensures.answer in
-    let answer : k ≡ length (drop g (take q.sent_count q.outputs)) = c.shed-self-then-self-gt0-2.ensures.answer ∙ ap (λ (x : ℕ). length (drop x (take q.sent_count q.outputs))) from in
-    let after : c.shed-self-then-self-gt0-2.new.memory ≡ in_front (drop g (take q.sent_count q.outputs)) q.outputs =
-    c.shed-self-then-self-gt0-2.ensures.after ∙ ap (λ (x : ℕ). in_front (drop x (take q.sent_count q.outputs)) q.outputs) from in
-    let ek = left_count g q.sent_count k q.outputs (omega (arith, kept_within q, q.sized.2)) answer in
-    let en : c.saturating_add-self.result ≡ q.sent + g = omega (arith, c.saturating_add-self.ensures, c.from-then-self-gt0.ensures, issued_is q, sum_first q lt, few) in
-    shed_is q lt c.shed-self.new.memory c.shed-self-then-self-gt0.new.memory c.shed-self-then-self-gt0-2.new.memory n s k c.saturating_add-self.result ec es ek en
-    (left_row 1 q.count n q.messages c.shed-self.new.memory c.shed-self.ensures.answer c.shed-self.ensures.after)
-    (left_row 1 q.standing s q.sends c.shed-self-then-self-gt0.new.memory c.shed-self-then-self-gt0.ensures.answer c.shed-self-then-self-gt0.ensures.after)
-    (left_row g q.sent_count k q.outputs c.shed-self-then-self-gt0-2.new.memory answer after)
+    let ns = held q.sends in
+    let g = get_or ns 0 0 in
+    let sent : c.saturating_add-self.result ≡ q.sent + g = omega (arith, c.saturating_add-self.ensures, c.from-in-Some.ensures, first c.before, issued_is q, rest ns (some c.before), q.tallies, few) in
+    let left = c.shed-in-Some-2.ensures ∙ ap (λ k. drop k (held q.outputs)) (c.from.ensures ∙ first c.before) in
+    same_queues _ _ _ _ _ _ _ _ _ _ c.shed.ensures c.shed-in-Some.ensures left refl sent
+    ∙ shed_is (held q.messages) ns (held q.outputs) (held q.early) q.sent (some c.before) q.stands (tally q)

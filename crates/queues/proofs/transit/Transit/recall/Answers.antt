@@ -1,6 +1,7 @@
 -- One more anti-message, cut to the places there are.
 use Rattle.std.proofs.Common.{◌≡◌, [], ◌∷◌, ◌++◌, map, get_or, take, sym, ap, ◌∙◌, arith}
-use Rattle.std.proofs.lemmas.List.{take_all, append-nil, length-take-le, get_or_default}
+use Rattle.std.proofs.lemmas.List.{take_all, append-nil, get_or_default}
+use Rattle.rows.proofs.Within.{held_within}
 use Rattle.bus.specs.declared.Sent.{Sent}
 use Rattle.model.specs.Deliver.{no_message}
 use Rattle.model.specs.declared.item.Item.{Item}
@@ -13,8 +14,7 @@ use Rattle.queues.proofs.transit.Transit.recall.Goals as goal
 pub loop-sent-init : goal.loop-sent-init
 loop-sent-init c =
     let t = c.args.self.now in
-    let l = length-take-le t.count t.items (omega (arith, t.fits, t.sized)) in
-    sym (ap (take 128) (append-nil (on_way t)) ∙ take_all 128 (on_way t) (omega (arith, l, t.fits)))
+    sym (ap (take 128) (append-nil (on_way t)) ∙ take_all 128 (on_way t) (held_within t.items))
 
 pub loop-sent-preserved : goal.loop-sent-preserved
 loop-sent-preserved c =

@@ -1,8 +1,9 @@
 -- A row that is changed behind a place: what is in front of the place stays.
-use Rattle.std.proofs.Common.{◌≡◌, ℕ, ◌+◌, ◌-◌, ◌≤◌, List, ◌++◌, length, take, drop, sym, ap, ◌∙◌, append_assoc, arith, length-drop, length-take}
+use Rattle.std.proofs.Common.{◌≡◌, ℕ, ◌+◌, ◌-◌, ◌<◌, ◌≤◌, min, List, ◌++◌, length, take, drop, sym, ap, ◌∙◌, ⊎_elim, append_assoc, arith, length-drop, length-take}
 use borrow.Rule.Slice.PartMut.{put_mid}
-use Rattle.std.proofs.lemmas.List.{take_all, take_at, drop_at, length-append, length-take-le}
-use Rattle.rows.specs.Rows.{in_front, without}
+use Rattle.std.proofs.lemmas.List.{take_all, drop_all, take_at, drop_at, length-append, length-take-le}
+use Rattle.std.proofs.lemmas.Bool.{cases_lt}
+use Rattle.rows.specs.Rows.{in_front}
 
 module _ {X : Type 0} (M : List X) (s : ℕ) (le : s ≤ length M) where
   pub part_length : length (take (length M - s) (drop s M)) ≡ length M - s
@@ -30,8 +31,18 @@ module _ {X : Type 0} (M : List X) (s : ℕ) (le : s ≤ length M) where
             ∙ take_at O (drop (length O) P ++ rest) n (sym l),
       )
 
--- a row from which one is removed counts no more than before
-pub removed_count : {X : Type 0} (memory : List X) (n place r : ℕ) → r ≡ length (without place (take n memory)) → r ≤ n
-removed_count memory n place r e =
-    let row = take n memory in
-    omega (arith, e, length-append (take place row) (drop (place + 1) row), length-take place row, length-drop (place + 1) row, length-take n memory)
+-- a place past the row's end counts as its end
+module _ {X : Type 0} (row : List X) (from n at : ℕ) (l : length row ≡ n) (e : at ≡ min from n) where
+  pub take_at_most : take at row ≡ take from row
+  take_at_most =
+      ⊎_elim
+      (λ (h : from < n). ap (λ k. take k row) (omega arith))
+      (λ (h : n ≤ from). take_all at row (omega arith) ∙ sym (take_all from row (omega arith)))
+      (cases_lt from n)
+
+  pub drop_at_most : drop at row ≡ drop from row
+  drop_at_most =
+      ⊎_elim
+      (λ (h : from < n). ap (λ k. drop k row) (omega arith))
+      (λ (h : n ≤ from). drop_all at row (omega arith) ∙ sym (drop_all from row (omega arith)))
+      (cases_lt from n)
