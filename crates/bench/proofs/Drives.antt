@@ -1,6 +1,6 @@
 -- Calls one after the other: what is written once some are played.
 use Rattle.std.proofs.Common.{◌≡◌, ℕ, suc, ◌+◌, ◌-◌, ◌<◌, ◌≤◌, min, Bool, List, [], ◌∷◌, ◌++◌, map, length, take, drop, set, sym, refl, ap, ◌∙◌, subst, inl, inr, add-one, arith}
-use Rattle.std.proofs.lemmas.List.{append_assoc, append-nil, length-append, length-map, length-drop, map-append, take_at, drop_at, drop-drop, take_all, take_rest, set_split}
+use Rattle.std.proofs.lemmas.List.{append_assoc, append-nil, length-append, length-map, length-drop, map-append, take_at, drop_at, drop-drop, drop_all, take_all, take_rest, set_split}
 use Rattle.std.proofs.lemmas.Bool.{cases_Bool, cases_lt}
 use Rattle.rows.proofs.Laws.{length_insert}
 use Rattle.bus.specs.declared.Message.{Message}
@@ -152,61 +152,56 @@ module _ (c : Setting) (s₀ : State) (outs₀ : List Outcome) (log₀ : List Me
       pub told_within : length part ≡ length (drop n log) → n + lines_in o ≤ length log
       told_within same = omega (arith, told_lines, ap length told_part, length-append (lines_of a) (drop (length (lines_of a)) (drop n log)), length-drop n log, played_within, same)
 
-      pub played_more : length xs < length outs₀ → Played c s₀ outs₀ log₀ (xs ++ (call ∷ [])) s' (set outs (length xs) o) (take n log ++ part) (n + lines_in o)
-      played_more io =
+      pub played_more : (i m k : ℕ) → i ≡ length xs → i < length outs₀ → m ≡ lines_in o → length (drop n log) ≤ k →
+          Played c s₀ outs₀ log₀ (xs ++ (call ∷ [])) s' (set outs i o) (take n log ++ (part ++ drop k (drop n log))) (n + m)
+      played_more i m k at io wrote all =
           let outs-so = map outcome_of (answers c s₀ xs) in
           let lines-so = lines (answers c s₀ xs) in
-          let i = length xs in
           let es : s' ≡ (perform c s call).0 = ap (λ (x : State × Outcome × List Message). x.0) e in
           let eo : o ≡ outcome_of a = ap (λ (x : State × Outcome × List Message). x.1) e in
-          let many : i ≡ length outs-so = sym (length-map (answers c s₀ xs) outcome_of ∙ answers_length c xs s₀) in
+          let many : i ≡ length outs-so = at ∙ sym (length-map (answers c s₀ xs) outcome_of ∙ answers_length c xs s₀) in
           record {
             state_is = es ∙ sym after_more;
             outs_are = ap (set outs i) eo ∙ ap (λ l. set l i (outcome_of a)) p.outs_are ∙ set_over (outcome_of a) outs-so outs₀ i many io
                 ∙ ap (λ l. over l outs₀) (sym (ap (map outcome_of) answers_more ∙ map-append outcome_of (answers c s₀ xs) (a ∷ [])));
-            log_is = ap (λ l. take n log ++ l) told_part ∙ ap (λ l. take n l ++ over (lines_of a) (drop n l)) p.log_is ∙ over_push lines-so (lines_of a) log₀ n p.count_is ∙ ap (λ l. over l log₀) (sym lines_more);
-            count_is = ap (λ k. n + k) told_lines ∙ omega (arith, p.count_is, ap length lines_more, length-append lines-so (lines_of a));
+            log_is = ap (λ l. take n log ++ l) (ap (λ l. part ++ l) (drop_all k (drop n log) all) ∙ append-nil part ∙ told_part) ∙ ap (λ l. take n l ++ over (lines_of a) (drop n l)) p.log_is ∙ over_push lines-so (lines_of a) log₀ n p.count_is ∙ ap (λ l. over l log₀) (sym lines_more);
+            count_is = ap (λ j. n + j) (wrote ∙ told_lines) ∙ omega (arith, p.count_is, ap length lines_more, length-append lines-so (lines_of a));
           }
 
--- the same of the bench that a set-up starts
-module _ (cu : Setting) (starts : List Words) (rows : List Row) (u : SetUp cu starts rows) (ce : Setting) (eu : ce ≡ cu) (s₀ : State) (es : s₀ ≡ started rows)
-    (outs₀ : List Outcome) (log₀ : List Message) (xs : List Call) (s : State) (outs : List Outcome) (log : List Message) (n : ℕ) (p : Played ce s₀ outs₀ log₀ xs s outs log n) where
-  pub played_so : Played cu (started rows) outs₀ log₀ xs s outs log n
-  played_so =
-      subst (λ (c : Setting). Played c (started rows) outs₀ log₀ xs s outs log n) eu
-      (subst (λ (x : State). Played ce x outs₀ log₀ xs s outs log n) es p)
-
+-- the run of a bench whose savers have begun
+module _ (c : Setting) (starts : List Words) (rows : List Row) (u : SetUp c starts rows)
+    (outs₀ : List Outcome) (log₀ : List Message) (xs : List Call) (s : State) (outs : List Outcome) (log : List Message) (n : ℕ) (p : Played c (started rows) outs₀ log₀ xs s outs log n) where
   room_left : length log ≡ length log₀ → length xs ≤ length log₀ → length (in_order (finals s)) ≤ length (drop n log)
   room_left same few = omega (
     arith,
-    finals_within cu starts rows u xs,
-    ap (λ (x : State). length (in_order (finals x))) played_so.state_is,
-    played_so.count_is,
+    finals_within c starts rows u xs,
+    ap (λ (x : State). length (in_order (finals x))) p.state_is,
+    p.count_is,
     length-drop n log,
     same,
     few,
   )
 
   -- what a turn of the loop is told
-  module _ (cl : Setting) (el : cl ≡ ce) where
-    pub reached_so : Reached cl s
+  module _ (now : Setting) (kept : now ≡ c) where
+    pub reached_so : Reached now s
     reached_so = record {
       starts = starts;
       rows = rows;
       calls = xs;
-      set_up = subst (λ (c : Setting). SetUp c starts rows) (sym (el ∙ eu)) u;
-      by_calls = ap (λ (c : Setting). after c (started rows) xs) (el ∙ eu) ∙ sym played_so.state_is;
+      set_up = subst (λ (x : Setting). SetUp x starts rows) (sym kept) u;
+      by_calls = ap (λ (x : Setting). after x (started rows) xs) kept ∙ sym p.state_is;
     }
 
-    pub turn_told : (call : Call) (r : State × Outcome × List Message) → length log ≡ length log₀ → length xs ≤ length log₀ → r ≡ perform_into (take (length log - n) (drop n log)) cl s call →
-        r ≡ put_into (drop n log) (perform ce s call)
+    pub turn_told : (call : Call) (r : State × Outcome × List Message) → length log ≡ length log₀ → length xs ≤ length log₀ → r ≡ perform_into (take (length log - n) (drop n log)) now s call →
+        r ≡ put_into (drop n log) (perform c s call)
     turn_told call r same few e =
-        e ∙ ap (λ (x : List Message). perform_into x cl s call) (take_rest log n) ∙ ap (λ (c : Setting). perform_into (drop n log) c s call) el
-        ∙ ap (put_into (drop n log)) (fitted_same ce s (length (drop n log)) call (room_left same few))
+        e ∙ ap (λ (x : List Message). perform_into x now s call) (take_rest log n) ∙ ap (λ (x : Setting). perform_into (drop n log) x s call) kept
+        ∙ ap (put_into (drop n log)) (fitted_same c s (length (drop n log)) call (room_left same few))
 
 -- as many calls as there is memory for
-pub all_played : (calls : List Call) (outs : List Outcome) (log : List Message) → take (min (min (length calls) (length outs)) (length log)) calls ≡ calls_with_memory calls outs log
-all_played calls outs log = elim (cases_lt (length calls) (min (length outs) (length log))) [
-  | inl l ↦ take_all (min (min (length calls) (length outs)) (length log)) calls (omega arith) ∙ sym (take_all (min (length outs) (length log)) calls (omega arith))
-  | inr l ↦ let e : min (min (length calls) (length outs)) (length log) ≡ min (length outs) (length log) = omega arith in ap (λ (k : ℕ). take k calls) e
+pub all_played : (calls : List Call) (outs : List Outcome) (log : List Message) (many : ℕ) → many ≡ min (min (length calls) (length outs)) (length log) → take many calls ≡ calls_with_memory calls outs log
+all_played calls outs log many e = elim (cases_lt (length calls) (min (length outs) (length log))) [
+  | inl l ↦ take_all many calls (omega arith) ∙ sym (take_all (min (length outs) (length log)) calls (omega arith))
+  | inr l ↦ let same : many ≡ min (length outs) (length log) = omega arith in ap (λ (k : ℕ). take k calls) same
 ]

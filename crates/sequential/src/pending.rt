@@ -45,15 +45,11 @@ pub(crate) fn append(pending: &mut [Message], held: usize, batch: &Batch) -> usi
     ensures after { pending.new ≡ in_front (take held pending.old ++ batched batch.now) pending.old }
 {
     match batch {
-        Batch::Empty => held,
-        Batch::Single(message) => {
-            pending[held] = *message;
-            held + 1
-        }
+        Batch::Empty => {}
+        Batch::Single(message) => pending[held] = *message,
         Batch::Double(first, second) => {
-            pending[held] = *first;
-            pending[held + 1] = *second;
-            held + 2
+            pending[held..held + 2].copy_from_slice(&[*first, *second]);
         }
     }
+    held + batch.len()
 }

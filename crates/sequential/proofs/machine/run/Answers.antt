@@ -51,6 +51,6 @@ loop-ended-smaller g c =
 pub loop-ended-preserved : goal.loop-ended-preserved
 loop-ended-preserved g c =
     run.going_turn _ _ _ _ _ _ _ _ _ _ _ _ _ _ c.loop-ended.invariant _ c.loop-ended.auto.pending c.in-Ok.message c.in-Ok.ensures
-    (g.met.R.Rack.level c.begin_all.new.rack) (omega (arith, c.min-lines.ensures)) _ _ _ _ _ _ _
+    (g.met.R.Rack.level c.begin_all.new.self) (omega (arith, c.min-lines.ensures)) _ _ _ _ _ _ _
     c.discard-left.ensures.answer c.discard-left.ensures.after c.advance-batch.ensures.left c.advance-batch.ensures.answer c.advance-batch.ensures.counted
     c.append-held.ensures.answer c.append-held.ensures.after (omega (arith, c.append-held.auto.pending, c.discard-left.auto.pending))

@@ -15,26 +15,26 @@ use Rattle.bench.proofs.Standing.{front_there, entry_standing, entry_issued, she
 use Rattle.bench.proofs.running.Running.commit_one.Goals as goal
 
 pub offset_bounds-self-place : goal.offset_bounds-self-place
-offset_bounds-self-place g c = let b = c.args.self.now in omega (arith, (front_there b.table c.in-Some.front c.in-Some.ensures).0, b.eight)
+offset_bounds-self-place g c = let b = c.args.self.now in omega (arith, (front_there b.table c.in_ok-front.front c.in_ok-front.ensures).0, b.eight)
 
 pub listed : goal.listed
-listed g c = let b = c.args.self.now in omega (arith, (front_there b.table c.in-Some.front c.in-Some.ensures).0, b.eight)
+listed g c = let b = c.args.self.now in omega (arith, (front_there b.table c.in_ok-front.front c.in_ok-front.ensures).0, b.eight)
 
 pub bounds-self-place : goal.bounds-self-place
-bounds-self-place g c = let b = c.args.self.now in omega (arith, (front_there b.table c.in-Some.front c.in-Some.ensures).0, b.eight)
+bounds-self-place g c = let b = c.args.self.now in omega (arith, (front_there b.table c.in_ok-front.front c.in_ok-front.ensures).0, b.eight)
 
 pub overflow_cast-place : goal.overflow_cast-place
-overflow_cast-place g c = let b = c.args.self.now in omega (arith, (front_there b.table c.in-Some.front c.in-Some.ensures).0, b.eight)
+overflow_cast-place g c = let b = c.args.self.now in omega (arith, (front_there b.table c.in_ok-front.front c.in_ok-front.ensures).0, b.eight)
 
 pub invariant_of-self : goal.invariant_of-self
 invariant_of-self g c =
     let b = c.args.self.now in
     let bs = b.table.entries in
-    let f = c.in-Some.front in
+    let f = c.in_ok-front.front in
     let p = f.board in
     let last = c.shed.new.self in
     let old = board_in b.table p in
-    let there = front_there b.table f c.in-Some.ensures in
+    let there = front_there b.table f c.in_ok-front.ensures in
     let at = board_at bs p c.index-self-place.result there.0 in
     let e : queues_of last ≡ shed 1 old = c.shed.ensures (omega (arith, ap issued at, b.numbered p, b.bounded)) ∙ ap (shed 1) (sym at) in
     let more : issued (queues_of last) ≤ 2 * b.runs = omega (arith, ap issued e, shed_issued old, b.numbered p) in
@@ -46,15 +46,15 @@ pub returns : goal.returns
 returns g c =
     let b = c.args.self.now in
     let bs = b.table.entries in
-    let f = c.in-Some.front in
+    let f = c.in_ok-front.front in
     let p = f.board in
     let o = c.args.outlook.now in
     let last = c.shed.new.self in
-    let S = state_of g.R.Rack.rows b in
-    let there = front_there b.table f c.in-Some.ensures in
+    let S = state_of b in
+    let there = front_there b.table f c.in_ok-front.ensures in
     let at = board_at bs p c.index-self-place.result there.0 in
     let e : queues_of last ≡ shed 1 (board_in b.table p) = c.shed.ensures (omega (arith, ap issued at, b.numbered p, b.bounded)) ∙ ap (shed 1) (sym at) in
-    let next : next_line o S ≡ Some f = ap (final_front o) (sym c.in-Some.ensures) ∙ cond-true _ _ _ (sym c.if-not-is_final.ensures) in
+    let next : next_line o S ≡ Some f = ap (final_front o) (sym c.in_ok-front.ensures) ∙ cond-true _ _ _ (sym c.if-not-is_final.ensures) in
     let F : List Row → List Queues → State = λ x y. record {
       rows = x;
       boards = y;

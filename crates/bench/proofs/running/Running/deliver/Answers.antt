@@ -68,7 +68,7 @@ returns-then-place-lt-MOST_BOARDS g c =
     map-set queues_of bs p last ∙ ap (set (map queues_of bs) p) (c.arrive.ensures ∙ ap (arrived item) (sym at)) in
     record {
       keeps_the_setting = refl;
-      does_what_the_rule_says = delivered_is (state_of g.R.Rack.rows b) c.args.index item c.message-board.result p c.plan-plan.result (messages_of c.sends_from-recalled.result.now)
+      does_what_the_rule_says = delivered_is (state_of b) c.args.index item c.message-board.result p c.plan-plan.result (messages_of c.sends_from-recalled.result.now)
           (g.R.Rack.rows c.back.new.self) (map queues_of (set bs p last)) (on_way c.remove.new.self) (on_way c.recall.new.self)
           c.in-Some.ensures c.message-board.ensures c.from-place.ensures c.plan-plan.ensures c.if-plan.false (omega (arith, c.len.ensures))
           c.back.ensures.left c.sends_from-recalled.ensures c.remove.ensures c.recall.ensures eb;
@@ -84,7 +84,7 @@ returns-else-place-lt-MOST_BOARDS g c =
     sym (set_past (map queues_of bs) p (arrived item (board_in b.table p)) (omega (arith, b.eight, length-map bs queues_of))) in
     record {
       keeps_the_setting = refl;
-      does_what_the_rule_says = delivered_is (state_of g.R.Rack.rows b) c.args.index item c.message-board.result p c.plan-plan.result (messages_of c.sends_from-recalled.result.now)
+      does_what_the_rule_says = delivered_is (state_of b) c.args.index item c.message-board.result p c.plan-plan.result (messages_of c.sends_from-recalled.result.now)
           (g.R.Rack.rows c.back.new.self) (map queues_of bs) (on_way c.remove.new.self) (on_way c.recall.new.self)
           c.in-Some.ensures c.message-board.ensures c.from-place.ensures c.plan-plan.ensures c.if-plan.false (omega (arith, c.len.ensures))
           c.back.ensures.left c.sends_from-recalled.ensures c.remove.ensures c.recall.ensures eb;

@@ -6,7 +6,7 @@ use Rattle.bench.proofs.running.Running.offer.Goals as goal
 
 pub returns : goal.returns
 returns g c =
-    let B = bench_of g.R.Rack.rules g.R.Rack.rows c.args.self.now in
+    let B = bench_of c.args.self.now in
     record {
       does_what_the_rule_says = offered_is B.setting B.state c.args.time c.args.destination c.args.kind c.args.payload _
           (omega (arith, c.boards.ensures)) (omega arith) (omega (arith, c.line_time.ensures)) (omega arith) (omega (arith, c.len.ensures)) c.send.ensures;

@@ -43,7 +43,7 @@ invariant_of-self-2 g c =
 pub returns-in_default-take : goal.returns-in_default-take
 returns-in_default-take g c =
     let b = c.args.self.now in
-    let B = bench_of g.R.Rack.rules g.R.Rack.rows b in
+    let B = bench_of b in
     let k = c.args.board in
     let m = c.in-Some.message in
     let em : first_message (board_in b.table k).open_ones ≡ Some m = ap (λ (i : ℕ). first_message (board_in b.table i).open_ones) (sym c.from-place.ensures) ∙ sym c.in-Some.ensures in
@@ -56,7 +56,7 @@ returns-in_default-take g c =
 pub returns : goal.returns
 returns g c =
     let b = c.args.self.now in
-    let B = bench_of g.R.Rack.rules g.R.Rack.rows b in
+    let B = bench_of b in
     let C = B.setting in
     let S = B.state in
     let bs = b.table.entries in
