@@ -12,17 +12,17 @@ use racks::Rack;
 use rows::TotalOrder;
 
 // Whether nothing outstanding can come before a message.
-fn is_final(outlook: &Option<Message>, message: &Message) -> bool
-    ensures { result ≡ is_final outlook.now message.now }
+fn is_final(outlook: Option<Message>, message: &Message) -> bool
+    ensures { result ≡ is_final outlook message.now }
 {
     outlook.is_none_or(|first| message.before(&first))
 }
 
 impl<R: Rack> Running<R> {
     // Commits the next line, if it is final.
-    fn commit_one(&mut self, outlook: &Option<Message>) -> Option<Message>
-        ensures answers_the_next_line { result ≡ message_of (next_line outlook.now (state_of self.old)) }
-        ensures takes_the_next_line { state_of self.new ≡ after_line (state_of self.old) (next_line outlook.now (state_of self.old)) }
+    fn commit_one(&mut self, outlook: Option<Message>) -> Option<Message>
+        ensures answers_the_next_line { result ≡ message_of (next_line outlook (state_of self.old)) }
+        ensures takes_the_next_line { state_of self.new ≡ after_line (state_of self.old) (next_line outlook (state_of self.old)) }
         ensures keeps_the_setting { setting_of self.new ≡ setting_of self.old }
     {
         let front = self.table.soonest()?;
@@ -47,7 +47,7 @@ impl<R: Rack> Running<R> {
     {
         let outlook = self.outlook();
         for (i, place) in log.iter_mut().enumerate() {
-            match self.commit_one(&outlook) {
+            match self.commit_one(outlook) {
                 Some(line) => *place = line,
                 None => return i,
             }

@@ -13,9 +13,7 @@ impl<R: Rack> Running<R> {
         ensures does_what_the_rule_says { (state_of self.new, delivered_or result) ≡ deliver (state_of self.old) index }
         ensures keeps_the_setting { setting_of self.new ≡ setting_of self.old }
     {
-        let Some(item) = self.transit.get(index) else {
-            return Err(Refusal::NoItem);
-        };
+        let item = self.transit.get(index).ok_or(Refusal::NoItem)?;
         let board = item.message().destination;
         let place = usize::from(board);
         let plan = self.table.plan(place, &item);

@@ -13,8 +13,8 @@ use racks::Rack;
 const MOST_OFFERS: u32 = 65_536;
 
 // The time of the last committed line, or 0.
-fn line_time(last: &Option<Message>) -> u32
-    ensures { result ≡ line_time last.now }
+fn line_time(last: Option<Message>) -> u32
+    ensures { result ≡ line_time last }
 {
     last.map_or(0, |line| line.time)
 }
@@ -37,7 +37,7 @@ impl<R: Rack> Running<R> {
         if time > self.end {
             return Err(Refusal::PastEnd);
         }
-        if time < line_time(&self.last) {
+        if time < line_time(self.last) {
             return Err(Refusal::BeforeLastLine);
         }
         if self.offers >= MOST_OFFERS {

@@ -26,9 +26,7 @@ impl<R: Rack> Running<R> {
             return Err(Refusal::NoBoard);
         }
         let place = usize::from(board);
-        let Some(message) = self.table.next(place) else {
-            return Err(Refusal::NothingOpen);
-        };
+        let message = self.table.next(place).ok_or(Refusal::NothingOpen)?;
         if self.runs >= MOST_RUNS {
             return Err(Refusal::RunsSpent);
         }

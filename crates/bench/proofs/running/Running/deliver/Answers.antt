@@ -20,24 +20,24 @@ pub overflow_add-len : goal.overflow_add-len
 overflow_add-len g c =
     let b = c.args.self.now in
     let p = c.from-place.result in
-    omega (arith, ap (λ (x : Plan). x.recalled) c.plan-plan.ensures, recalled_small c.in-Some.item (board_in b.table p), b.numbered p, b.bounded, c.len.ensures, b.transit.fits, length-take b.transit.count b.transit.items)
+    omega (arith, ap (λ (x : Plan). x.recalled) c.plan-plan.ensures, recalled_small c.in_ok-item.item (board_in b.table p), b.numbered p, b.bounded, c.len.ensures, b.transit.fits, length-take b.transit.count b.transit.items)
 
 pub overflow_cast-self : goal.overflow_cast-self
 overflow_cast-self g c =
     let b = c.args.self.now in
-    omega (arith, undone_within b.table c.from-place.result c.in-Some.item c.plan-plan.result c.plan-plan.ensures, b.counted, b.bounded)
+    omega (arith, undone_within b.table c.from-place.result c.in_ok-item.item c.plan-plan.result c.plan-plan.ensures, b.counted, b.bounded)
 
 pub overflow_add-self : goal.overflow_add-self
 overflow_add-self g c =
     let b = c.args.self.now in
-    omega (arith, undone_within b.table c.from-place.result c.in-Some.item c.plan-plan.result c.plan-plan.ensures, b.counted, b.bounded)
+    omega (arith, undone_within b.table c.from-place.result c.in_ok-item.item c.plan-plan.result c.plan-plan.ensures, b.counted, b.bounded)
 
 pub invariant_of-self-then-place-lt-MOST_BOARDS : goal.invariant_of-self-then-place-lt-MOST_BOARDS
 invariant_of-self-then-place-lt-MOST_BOARDS g c =
     let b = c.args.self.now in
     let bs = b.table.entries in
     let p = c.from-place.result in
-    let item = c.in-Some.item in
+    let item = c.in_ok-item.item in
     let last = c.arrive.new.self in
     let q = board_in b.table p in
     let at : q ≡ queues_of (get_or bs p c.index-self-place.result) = board_at bs p c.index-self-place.result (omega arith) in
@@ -61,7 +61,7 @@ returns-then-place-lt-MOST_BOARDS g c =
     let b = c.args.self.now in
     let bs = b.table.entries in
     let p = c.from-place.result in
-    let item = c.in-Some.item in
+    let item = c.in_ok-item.item in
     let last = c.arrive.new.self in
     let at : board_in b.table p ≡ queues_of (get_or bs p c.index-self-place.result) = board_at bs p c.index-self-place.result (omega arith) in
     let eb : map queues_of (set bs p last) ≡ set (map queues_of bs) p (arrived item (board_in b.table p)) =
@@ -70,7 +70,7 @@ returns-then-place-lt-MOST_BOARDS g c =
       keeps_the_setting = refl;
       does_what_the_rule_says = delivered_is (state_of b) c.args.index item c.message-board.result p c.plan-plan.result (messages_of c.sends_from-recalled.result.now)
           (g.R.Rack.rows c.back.new.self) (map queues_of (set bs p last)) (on_way c.remove.new.self) (on_way c.recall.new.self)
-          c.in-Some.ensures c.message-board.ensures c.from-place.ensures c.plan-plan.ensures c.if-plan.false (omega (arith, c.len.ensures))
+          (sym c.in_ok-item.ensures.ok_part ∙ c.get.ensures) c.message-board.ensures c.from-place.ensures c.plan-plan.ensures c.if-plan.false (omega (arith, c.len.ensures))
           c.back.ensures.left c.sends_from-recalled.ensures c.remove.ensures c.recall.ensures eb;
     }
 
@@ -79,13 +79,13 @@ returns-else-place-lt-MOST_BOARDS g c =
     let b = c.args.self.now in
     let bs = b.table.entries in
     let p = c.from-place.result in
-    let item = c.in-Some.item in
+    let item = c.in_ok-item.item in
     let eb : map queues_of bs ≡ set (map queues_of bs) p (arrived item (board_in b.table p)) =
     sym (set_past (map queues_of bs) p (arrived item (board_in b.table p)) (omega (arith, b.eight, length-map bs queues_of))) in
     record {
       keeps_the_setting = refl;
       does_what_the_rule_says = delivered_is (state_of b) c.args.index item c.message-board.result p c.plan-plan.result (messages_of c.sends_from-recalled.result.now)
           (g.R.Rack.rows c.back.new.self) (map queues_of bs) (on_way c.remove.new.self) (on_way c.recall.new.self)
-          c.in-Some.ensures c.message-board.ensures c.from-place.ensures c.plan-plan.ensures c.if-plan.false (omega (arith, c.len.ensures))
+          (sym c.in_ok-item.ensures.ok_part ∙ c.get.ensures) c.message-board.ensures c.from-place.ensures c.plan-plan.ensures c.if-plan.false (omega (arith, c.len.ensures))
           c.back.ensures.left c.sends_from-recalled.ensures c.remove.ensures c.recall.ensures eb;
     }

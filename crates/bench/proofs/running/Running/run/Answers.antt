@@ -37,19 +37,19 @@ invariant_of-self-2 g c =
     omega (arith, ap issued e, issued_stood out old old.open_ones, b.numbered k, two_at_most c.messages-out.result) in
     let numbered = entry_issued bs k last (2 * (b.runs + 1)) (λ i. omega (arith, b.numbered i)) more in
     let one : length (queues_of last).standing ≡ length old.standing + 1 =
-    ap (λ (q : Queues). length q.standing) e ∙ stood_one out old old.open_ones c.in-Some.message (sym c.in-Some.ensures) in
+    ap (λ (q : Queues). length q.standing) e ∙ stood_one out old old.open_ones c.in_ok-message.message (sym c.next.ensures ∙ c.in_ok-message.ensures.ok_part) in
     record { eight = length-set bs k last ∙ b.eight; bounded = omega arith; counted = omega (arith, entry_standing bs k last (omega arith), b.counted, one); numbered = numbered }
 
-pub returns-in_default-take : goal.returns-in_default-take
-returns-in_default-take g c =
+pub returns-in_default : goal.returns-in_default
+returns-in_default g c =
     let b = c.args.self.now in
     let B = bench_of b in
     let k = c.args.board in
-    let m = c.in-Some.message in
-    let em : first_message (board_in b.table k).open_ones ≡ Some m = ap (λ (i : ℕ). first_message (board_in b.table i).open_ones) (sym c.from-place.ensures) ∙ sym c.in-Some.ensures in
+    let m = c.in_ok-message.message in
+    let em : first_message (board_in b.table k).open_ones ≡ Some m = ap (λ (i : ℕ). first_message (board_in b.table i).open_ones) (sym c.from-place.ensures) ∙ (sym c.next.ensures ∙ c.in_ok-message.ensures.ok_part) in
     record {
       does_what_the_rule_says = λ reached.
-          absurd (never_refused B.setting B.state k m c.in_default-take.field-0 reached (g.met.R.Rack.level b.rack) (omega (arith, c.boards-boards.ensures)) (rooms_within b.table.entries k) em c.in_default-take.ensures.answer);
+          absurd (never_refused B.setting B.state k m c.in_default.field-0 reached (g.met.R.Rack.level b.rack) (omega (arith, c.boards-boards.ensures)) (rooms_within b.table.entries k) em c.in_default.ensures.answer);
       keeps_the_setting = refl;
     }
 
@@ -63,12 +63,12 @@ returns g c =
     let p = c.from-place.result in
     let k = c.args.board in
     let ek : p ≡ k = c.from-place.ensures in
-    let m = c.in-Some.message in
+    let m = c.in_ok-message.message in
     let sends = c.in-Ok.sends in
     let out = batched c.messages-out.result in
     let last = c.stand.new.self in
     let os : ℕ → List Message = λ i. (board_in b.table i).open_ones in
-    let em : first_message (os k) ≡ Some m = ap (λ (i : ℕ). first_message (os i)) (sym ek) ∙ sym c.in-Some.ensures in
+    let em : first_message (os k) ≡ Some m = ap (λ (i : ℕ). first_message (os i)) (sym ek) ∙ (sym c.next.ensures ∙ c.in_ok-message.ensures.ok_part) in
     let at : board_in b.table p ≡ queues_of (get_or bs p c.index-self-place.result) = board_at bs p c.index-self-place.result (omega arith) in
     let eq : queues_of last ≡ first_stands out (board_in b.table k) = c.stand.ensures ∙ ap (first_stands out) (sym at ∙ ap (board_in b.table) ek) in
     let eb : map queues_of (set bs p last) ≡ set (map queues_of bs) k (queues_of last) =
