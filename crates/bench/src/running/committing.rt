@@ -20,6 +20,7 @@ fn is_final(outlook: Option<Message>, message: &Message) -> bool
 
 impl<R: Rack> Running<R> {
     // Commits the next line, if it is final.
+    #[tactic(auto, using(crate::proofs::Standing::front_inside))]
     fn commit_one(&mut self, outlook: Option<Message>) -> Option<Message>
         ensures answers_the_next_line { result ≡ message_of (next_line outlook (state_of self.old)) }
         ensures takes_the_next_line { state_of self.new ≡ after_line (state_of self.old) (next_line outlook (state_of self.old)) }

@@ -3,33 +3,18 @@ use Rattle.std.proofs.Common.{◌≡◌, ℕ, ◌+◌, ◌-◌, ◌≤◌, min, 
 use Rattle.std.proofs.lemmas.List.{take_more, take_all, take_rest, length-take, length-take-le, length-drop}
 use Rattle.model.specs.declared.call.Call.{Call}
 use Rattle.model.specs.declared.call.Call.TheVariants.{Offer}
-use Rattle.model.specs.State.{State, started}
+use Rattle.model.specs.State.{started}
 use Rattle.model.specs.Perform.{perform}
 use Rattle.model.specs.Outcomes.{lines_in}
 use Rattle.model.proofs.Law.{law}
-use Rattle.bench.specs.Benches.{Bench, setting_of, state_of}
+use Rattle.bench.specs.Benches.{setting_of, state_of}
 use Rattle.bench.specs.Setups.{start_of, first_rows}
 use Rattle.bench.specs.Logs.{put_into}
 use Rattle.bench.specs.Drives.{calls_with_memory}
 use Rattle.bench.proofs.Begins.{set_up_of}
-use Rattle.bench.proofs.Drives.{Played, played_within, played_none, told_within, played_more, reached_so, turn_told, all_played}
+use Rattle.bench.proofs.Drives.{Played, told_within, played_more, reached_so, turn_told, all_played}
 use Rattle.bench.proofs.driving.drive.Given as given
 use Rattle.bench.proofs.driving.drive.Goals as goal
-
-pub loop-i-init : goal.loop-i-init
-loop-i-init g c =
-    let u = start_of c.args.setup in
-    let outs₀ = c.args.outcomes.now in
-    let log₀ = c.args.log.now in
-    let starts = c.start-bench.ensures.savers_begin_with_the_start_words in
-    let begun : state_of c.start-bench.result ≡ started (first_rows u) = ap (λ (b : Bench). b.state) starts in
-    record {
-      follows = subst (λ (s : State). Played u.setting (started (first_rows u)) outs₀ log₀ (take 0 c.args.calls.now) s outs₀ log₀ 0) (sym begun) (played_none u.setting (started (first_rows u)) outs₀ log₀);
-      keeps = ap (λ (b : Bench). b.setting) starts;
-    }
-
-pub slice_bounds-perform-count : goal.slice_bounds-perform-count
-slice_bounds-perform-count g c = played_within _ _ _ _ _ _ _ _ _ c.loop-i.invariant.follows
 
 -- what the call of a turn is told
 turn : (g : given.Over) (c : goal.After-lines-lines g) →

@@ -1,5 +1,5 @@
 -- Line by line the log fills, and together the lines are those of the rule.
-use Rattle.std.proofs.Common.{◌≡◌, ℕ, ◌≤◌, List, length, take, drop, Option, sym, refl, ap, ◌∙◌, arith}
+use Rattle.std.proofs.Common.{◌≡◌, ℕ, ◌≤◌, List, length, take, drop, Option, sym, ap, ◌∙◌, arith}
 use Rattle.std.proofs.lemmas.List.{set-get_or}
 use Rattle.bus.specs.declared.Message.{Message}
 use Rattle.addressing.specs.Settings.{Setting}
@@ -10,12 +10,9 @@ use Rattle.model.specs.Lines.{state_after, lines_after}
 use Rattle.model.proofs.Turns.{turns_are}
 use Rattle.bench.specs.Benches.{setting_of, state_of}
 use Rattle.bench.specs.Logs.{commit_into}
-use Rattle.bench.proofs.Lines.{written_none, written_more, written_stop, written_all}
+use Rattle.bench.proofs.Lines.{written_more, written_stop, written_all}
 use Rattle.bench.proofs.Logs.{commit_is}
 use Rattle.bench.proofs.running.Running.commit.Goals as goal
-
-pub loop-i-init : goal.loop-i-init
-loop-i-init g c = record { written = written_none c.outlook-outlook.result (state_of c.args.self.now) c.args.log.now; keeps = refl }
 
 pub loop-i-preserved : goal.loop-i-preserved
 loop-i-preserved g c = record {
@@ -35,41 +32,30 @@ does c s s' log₀ log n o reached eo es el within rest =
     (ap (λ (x : State). turns x (take n log)) es ∙ ap (turns (state_after o m s)) el ∙ ap (λ (x : Option Message). turns (state_after x m s) (lines_after x m s)) eo ∙ turns_are c s reached m)
     within rest
 
-pub returns-in-None : goal.returns-in-None
-returns-in-None g c =
+pub returns-in-None-clause-does_what_the_rule_says : goal.returns-in-None-clause-does_what_the_rule_says
+returns-in-None-clause-does_what_the_rule_says g c =
     let s = state_of c.args.self.now in
     let s' = state_of c.commit_one.new.self in
     let log₀ = c.args.log.now in
     let log = c.loop-i.log in
     let o = c.outlook-outlook.result in
     let i = c.loop-i.i in
-    let before = c.loop-i.invariant in
-    let end = written_stop o s log₀ i (state_of c.loop-i.self) log (omega arith) before.written
-    s' (omega arith) c.in-None.ensures.answers_the_next_line c.in-None.ensures.takes_the_next_line in
+    let before = c.loop-i.invariant.written in
+    let end = written_stop o s log₀ i (state_of c.loop-i.self) log (omega arith) before s' (omega arith) c.in-None.ensures.answers_the_next_line c.in-None.ensures.takes_the_next_line in
     -- the place that was lent for a line holds what it held
-    rw set-get_or (record {
-      keeps_the_setting = c.in-None.ensures.keeps_the_setting ∙ before.keeps;
-      does_what_the_rule_says = λ reached. does (setting_of c.args.self.now) s s' log₀ log i o reached c.outlook-outlook.ensures end.0 end.1 (omega arith) before.written.rest;
-      writes_within_the_log = omega arith;
-      leaves_the_rest_of_the_log = before.written.rest;
-    })
+    rw set-get_or (λ reached. does (setting_of c.args.self.now) s s' log₀ log i o reached c.outlook-outlook.ensures end.0 end.1 (omega arith) before.rest)
 
-pub returns : goal.returns
-returns g c =
+pub returns-clause-does_what_the_rule_says : goal.returns-clause-does_what_the_rule_says
+returns-clause-does_what_the_rule_says g c =
     let s = state_of c.args.self.now in
     let s' = state_of c.loop-i.self in
     let log₀ = c.args.log.now in
     let log = c.loop-i.log in
     let o = c.outlook-outlook.result in
     let n = length log in
-    let before = c.loop-i.invariant in
+    let before = c.loop-i.invariant.written in
     let at_end : c.loop-i.i ≡ n = omega arith in
-    let end = written_all o s log₀ c.loop-i.i s' log (omega arith) before.written (omega arith) in
+    let end = written_all o s log₀ c.loop-i.i s' log (omega arith) before (omega arith) in
     let lines : take n log ≡ lines_after o (length log₀) s = ap (λ (k : ℕ). take k log) (sym at_end) ∙ end.1 in
-    let rest : drop n log ≡ drop n log₀ = ap (λ (k : ℕ). drop k log) (sym at_end) ∙ before.written.rest ∙ ap (λ (k : ℕ). drop k log₀) at_end in
-    record {
-      keeps_the_setting = before.keeps;
-      does_what_the_rule_says = λ reached. does (setting_of c.args.self.now) s s' log₀ log n o reached c.outlook-outlook.ensures end.0 lines (omega arith) rest;
-      writes_within_the_log = omega arith;
-      leaves_the_rest_of_the_log = rest;
-    }
+    let rest : drop n log ≡ drop n log₀ = ap (λ (k : ℕ). drop k log) (sym at_end) ∙ before.rest ∙ ap (λ (k : ℕ). drop k log₀) at_end in
+    λ reached. does (setting_of c.args.self.now) s s' log₀ log n o reached c.outlook-outlook.ensures end.0 lines (omega arith) rest

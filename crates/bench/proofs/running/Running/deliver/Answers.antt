@@ -1,11 +1,11 @@
 -- A delivery that passes all tests is the rule's, and the counts stay in bounds.
-use Rattle.std.proofs.Common.{◌≡◌, ◌+◌, ◌*◌, ◌≤◌, false, map, length, get_or, set, sym, refl, ap, ◌∙◌, arith, length-take}
-use Rattle.std.proofs.lemmas.List.{length-set, length-map, map-set, set_past, get_or_past}
-use Rattle.model.specs.State.{Queues, no_queues, issued}
+use Rattle.std.proofs.Common.{◌≡◌, ◌+◌, ◌*◌, ◌≤◌, false, map, length, get_or, set, sym, ap, ◌∙◌, arith, length-take}
+use Rattle.std.proofs.lemmas.List.{length-set, length-map, map-set, set_past}
+use Rattle.model.specs.State.{Queues, issued}
 use Rattle.model.specs.Deliver.{arrive}
 use Rattle.queues.specs.declared.plan.Plan.{Plan}
 use Rattle.queues.specs.Arrivals.{arrived, no_place}
-use Rattle.queues.specs.Entries.{queues_of, board_in, boards_in}
+use Rattle.queues.specs.Entries.{queues_of, board_in}
 use Rattle.queues.specs.Memory.{messages_of}
 use Rattle.queues.specs.Transits.{on_way}
 use Rattle.queues.proofs.Boards.{board_at}
@@ -48,16 +48,8 @@ invariant_of-self-then-place-lt-MOST_BOARDS g c =
     omega (arith, entry_standing bs p last (omega arith), b.counted, ap (λ (x : Queues). length x.standing) e, stay_stand item q, stay_within item q, ap (λ (x : Plan). x.undone) c.plan-plan.ensures) in
     record { eight = length-set bs p last ∙ b.eight; bounded = b.bounded; counted = counted; numbered = entry_issued bs p last (2 * b.runs) b.numbered more }
 
-pub invariant_of-self-else-place-lt-MOST_BOARDS : goal.invariant_of-self-else-place-lt-MOST_BOARDS
-invariant_of-self-else-place-lt-MOST_BOARDS g c =
-    let b = c.args.self.now in
-    let p = c.from-place.result in
-    let none : board_in b.table p ≡ no_queues = get_or_past (boards_in b.table) p no_queues (omega (arith, b.eight, length-map b.table.entries queues_of)) in
-    let zero : c.plan-plan.result.undone ≡ 0 = omega (arith, ap (λ (x : Plan). x.undone) c.plan-plan.ensures, ap (λ (x : Queues). length x.standing) none) in
-    record { eight = b.eight; bounded = b.bounded; counted = omega (arith, b.counted, zero); numbered = b.numbered }
-
-pub returns-then-place-lt-MOST_BOARDS : goal.returns-then-place-lt-MOST_BOARDS
-returns-then-place-lt-MOST_BOARDS g c =
+pub returns-then-place-lt-MOST_BOARDS-clause-does_what_the_rule_says : goal.returns-then-place-lt-MOST_BOARDS-clause-does_what_the_rule_says
+returns-then-place-lt-MOST_BOARDS-clause-does_what_the_rule_says g c =
     let b = c.args.self.now in
     let bs = b.table.entries in
     let p = c.from-place.result in
@@ -66,26 +58,20 @@ returns-then-place-lt-MOST_BOARDS g c =
     let at : board_in b.table p ≡ queues_of (get_or bs p c.index-self-place.result) = board_at bs p c.index-self-place.result (omega arith) in
     let eb : map queues_of (set bs p last) ≡ set (map queues_of bs) p (arrived item (board_in b.table p)) =
     map-set queues_of bs p last ∙ ap (set (map queues_of bs) p) (c.arrive.ensures ∙ ap (arrived item) (sym at)) in
-    record {
-      keeps_the_setting = refl;
-      does_what_the_rule_says = delivered_is (state_of b) c.args.index item c.message-board.result p c.plan-plan.result (messages_of c.sends_from-recalled.result.now)
-          (g.R.Rack.rows c.back.new.self) (map queues_of (set bs p last)) (on_way c.remove.new.self) (on_way c.recall.new.self)
-          (sym c.in_ok-item.ensures.ok_part ∙ c.get.ensures) c.message-board.ensures c.from-place.ensures c.plan-plan.ensures c.if-plan.false (omega (arith, c.len.ensures))
-          c.back.ensures.left c.sends_from-recalled.ensures c.remove.ensures c.recall.ensures eb;
-    }
+    delivered_is (state_of b) c.args.index item c.message-board.result p c.plan-plan.result (messages_of c.sends_from-recalled.result.now)
+    (g.R.Rack.rows c.back.new.self) (map queues_of (set bs p last)) (on_way c.remove.new.self) (on_way c.recall.new.self)
+    (sym c.in_ok-item.ensures.ok_part ∙ c.get.ensures) c.message-board.ensures c.from-place.ensures c.plan-plan.ensures c.if-plan.false (omega (arith, c.len.ensures))
+    c.back.ensures.left c.sends_from-recalled.ensures c.remove.ensures c.recall.ensures eb
 
-pub returns-else-place-lt-MOST_BOARDS : goal.returns-else-place-lt-MOST_BOARDS
-returns-else-place-lt-MOST_BOARDS g c =
+pub returns-else-place-lt-MOST_BOARDS-clause-does_what_the_rule_says : goal.returns-else-place-lt-MOST_BOARDS-clause-does_what_the_rule_says
+returns-else-place-lt-MOST_BOARDS-clause-does_what_the_rule_says g c =
     let b = c.args.self.now in
     let bs = b.table.entries in
     let p = c.from-place.result in
     let item = c.in_ok-item.item in
     let eb : map queues_of bs ≡ set (map queues_of bs) p (arrived item (board_in b.table p)) =
     sym (set_past (map queues_of bs) p (arrived item (board_in b.table p)) (omega (arith, b.eight, length-map bs queues_of))) in
-    record {
-      keeps_the_setting = refl;
-      does_what_the_rule_says = delivered_is (state_of b) c.args.index item c.message-board.result p c.plan-plan.result (messages_of c.sends_from-recalled.result.now)
-          (g.R.Rack.rows c.back.new.self) (map queues_of bs) (on_way c.remove.new.self) (on_way c.recall.new.self)
-          (sym c.in_ok-item.ensures.ok_part ∙ c.get.ensures) c.message-board.ensures c.from-place.ensures c.plan-plan.ensures c.if-plan.false (omega (arith, c.len.ensures))
-          c.back.ensures.left c.sends_from-recalled.ensures c.remove.ensures c.recall.ensures eb;
-    }
+    delivered_is (state_of b) c.args.index item c.message-board.result p c.plan-plan.result (messages_of c.sends_from-recalled.result.now)
+    (g.R.Rack.rows c.back.new.self) (map queues_of bs) (on_way c.remove.new.self) (on_way c.recall.new.self)
+    (sym c.in_ok-item.ensures.ok_part ∙ c.get.ensures) c.message-board.ensures c.from-place.ensures c.plan-plan.ensures c.if-plan.false (omega (arith, c.len.ensures))
+    c.back.ensures.left c.sends_from-recalled.ensures c.remove.ensures c.recall.ensures eb

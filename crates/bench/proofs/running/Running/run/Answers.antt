@@ -1,5 +1,5 @@
 -- A run that is accepted is the rule's; the saver refuses none of them.
-use Rattle.std.proofs.Common.{◌≡◌, ℕ, ◌+◌, ◌*◌, ◌^◌, ◌<◌, ◌≤◌, List, ◌++◌, map, length, get_or, set, Some, sym, refl, ap, ◌∙◌, arith}
+use Rattle.std.proofs.Common.{◌≡◌, ℕ, ◌+◌, ◌*◌, ◌^◌, ◌<◌, ◌≤◌, List, ◌++◌, map, length, get_or, set, Some, sym, ap, ◌∙◌, arith}
 use Rattle.std.proofs.lemmas.List.{length-set, length-map, length-append, map-set, take_all}
 use Rattle.bus.specs.declared.Message.{Message}
 use Rattle.bus.specs.Reactions.{listed}
@@ -12,7 +12,7 @@ use Rattle.model.specs.State.{Queues, State, Answer, ran, issued}
 use Rattle.queues.specs.Entries.{queues_of, first_message, first_stands, board_in}
 use Rattle.queues.specs.Transits.{on_way}
 use Rattle.queues.proofs.Boards.{board_at}
-use Rattle.bench.specs.Benches.{bench_of}
+use Rattle.bench.specs.Benches.{setting_of, state_of}
 use Rattle.bench.proofs.Standing.{entry_standing, entry_issued, stood_one, issued_stood}
 use Rattle.bench.proofs.Reacts.{never_refused, rooms_within, run_is, rest_of, first_some}
 use Rattle.bench.proofs.running.Running.run.Goals as goal
@@ -40,25 +40,19 @@ invariant_of-self-2 g c =
     ap (λ (q : Queues). length q.standing) e ∙ stood_one out old old.open_ones c.in_ok-message.message (sym c.next.ensures ∙ c.in_ok-message.ensures.ok_part) in
     record { eight = length-set bs k last ∙ b.eight; bounded = omega arith; counted = omega (arith, entry_standing bs k last (omega arith), b.counted, one); numbered = numbered }
 
-pub returns-in_default : goal.returns-in_default
-returns-in_default g c =
+pub returns-in_default-clause-does_what_the_rule_says : goal.returns-in_default-clause-does_what_the_rule_says
+returns-in_default-clause-does_what_the_rule_says g c =
     let b = c.args.self.now in
-    let B = bench_of b in
     let k = c.args.board in
     let m = c.in_ok-message.message in
     let em : first_message (board_in b.table k).open_ones ≡ Some m = ap (λ (i : ℕ). first_message (board_in b.table i).open_ones) (sym c.from-place.ensures) ∙ (sym c.next.ensures ∙ c.in_ok-message.ensures.ok_part) in
-    record {
-      does_what_the_rule_says = λ reached.
-          absurd (never_refused B.setting B.state k m c.in_default.field-0 reached (g.met.R.Rack.level b.rack) (omega (arith, c.boards-boards.ensures)) (rooms_within b.table.entries k) em c.in_default.ensures.answer);
-      keeps_the_setting = refl;
-    }
+    λ reached. absurd (never_refused (setting_of b) (state_of b) k m c.in_default.field-0 reached (g.met.R.Rack.level b.rack) (omega (arith, c.boards-boards.ensures)) (rooms_within b.table.entries k) em c.in_default.ensures.answer)
 
-pub returns : goal.returns
-returns g c =
+pub returns-clause-does_what_the_rule_says : goal.returns-clause-does_what_the_rule_says
+returns-clause-does_what_the_rule_says g c =
     let b = c.args.self.now in
-    let B = bench_of b in
-    let C = B.setting in
-    let S = B.state in
+    let C = setting_of b in
+    let S = state_of b in
     let bs = b.table.entries in
     let p = c.from-place.result in
     let k = c.args.board in
@@ -92,10 +86,7 @@ returns g c =
       },
       ran c.len-2.result,
     ) in
-    record {
-      does_what_the_rule_says = λ reached. ap F eb
-          ∙ run_is C S k m sends out (rest_of (os k)) (g.R.Rack.rows c.take.new.self) (queues_of last) (on_way c.send.new.self) c.len-2.result
-          (first_some (os k) m em) (omega (arith, c.boards-boards.ensures)) (omega arith) few
-          c.in-Ok.ensures.answer c.in-Ok.ensures.left eout eq et c.len-2.ensures;
-      keeps_the_setting = refl;
-    }
+    λ reached. ap F eb
+        ∙ run_is C S k m sends out (rest_of (os k)) (g.R.Rack.rows c.take.new.self) (queues_of last) (on_way c.send.new.self) c.len-2.result
+        (first_some (os k) m em) (omega (arith, c.boards-boards.ensures)) (omega arith) few
+        c.in-Ok.ensures.answer c.in-Ok.ensures.left eout eq et c.len-2.ensures
