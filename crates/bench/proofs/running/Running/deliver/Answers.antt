@@ -13,7 +13,7 @@ use Rattle.queues.proofs.Changes.{stay_within}
 use Rattle.bench.specs.Benches.{state_of}
 use Rattle.bench.specs.Counts.{all_standing}
 use Rattle.bench.proofs.Standing.{entry_standing, entry_issued}
-use Rattle.bench.proofs.Deliveries.{delivered_is, arrived_is, stay_stand, issued_no_more, recalled_small, undone_within}
+use Rattle.bench.proofs.Deliveries.{delivered_is, arrived_is, stay_stand, issued_no_more, recalled_small}
 use Rattle.bench.proofs.running.Running.deliver.Goals as goal
 
 pub overflow_add-len : goal.overflow_add-len
@@ -21,16 +21,6 @@ overflow_add-len g c =
     let b = c.args.self.now in
     let p = c.from-place.result in
     omega (arith, ap (λ (x : Plan). x.recalled) c.plan-plan.ensures, recalled_small c.in_ok-item.item (board_in b.table p), b.numbered p, b.bounded, c.len.ensures, b.transit.fits, length-take b.transit.count b.transit.items)
-
-pub overflow_cast-self : goal.overflow_cast-self
-overflow_cast-self g c =
-    let b = c.args.self.now in
-    omega (arith, undone_within b.table c.from-place.result c.in_ok-item.item c.plan-plan.result c.plan-plan.ensures, b.counted, b.bounded)
-
-pub overflow_add-self : goal.overflow_add-self
-overflow_add-self g c =
-    let b = c.args.self.now in
-    omega (arith, undone_within b.table c.from-place.result c.in_ok-item.item c.plan-plan.result c.plan-plan.ensures, b.counted, b.bounded)
 
 pub invariant_of-self-then-place-lt-MOST_BOARDS : goal.invariant_of-self-then-place-lt-MOST_BOARDS
 invariant_of-self-then-place-lt-MOST_BOARDS g c =
