@@ -47,6 +47,7 @@ pub fn run<R: Rack>(
     let mut sent = [0; 8];
     let mut held = rows::row(pending, count).len();
     let mut steps = 0;
+    // no `for` over the log: behind its last place it would have to ask `next` once more why the run ends
     loop {
         match next(pending, held, steps, lines) {
             Err(ended) => return Outcome {

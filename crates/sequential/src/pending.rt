@@ -32,6 +32,7 @@ pub(crate) fn discard(pending: &mut [Message], held: usize, message: &Message) -
     ensures answer { result ≡ length (without_one message_before message.now (take held pending.old)) }
     ensures after { pending.new ≡ in_front (without_one message_before message.now (take held pending.old)) pending.old }
 {
+    // no `map_or_else`: its two closures would borrow the memory at once
     match rows::find(pending, held, message) {
         Some(place) => rows::remove(pending, held, place),
         None => rows::row(pending, held).len(),

@@ -31,7 +31,7 @@ impl<R: Rack> Running<R> {
         // its saver holds the words after every standing event, so it has those that stay
         let _ = self.rack.back(board, plan.stay);
         self.undone += plan.undone as u32;
-        // not `get_mut`: what it lends out of the table, no answer can name
+        // no `get_mut`: the proof has no name for what it lends out of the table
         if place < MOST_BOARDS {
             self.table.entries[place].arrive(&item);
         }

@@ -4,13 +4,10 @@ ghost use Rattle.model.specs.Law.{Reached};
 ghost use Rattle.model.specs.Run.{run};
 ghost use Rattle.bench.specs.Benches.{setting_of, state_of, ran_or};
 
-use super::{Running, TRANSIT_PLACES};
+use super::{MOST_RUNS, Running, TRANSIT_PLACES};
 use addressing::Origin;
 use model::Refusal;
 use racks::Rack;
-
-// How many runs a bench accepts.
-const MOST_RUNS: u32 = 1_000_000_000;
 
 // How many items in transit leave places for the two messages that a reaction may send.
 const TRANSIT_WITH_TWO_FREE: usize = TRANSIT_PLACES - 2;

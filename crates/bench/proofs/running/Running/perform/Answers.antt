@@ -14,7 +14,7 @@ returns-in-Commit-clause-does_what_the_rule_says g c =
     let m = c.min-fitting.result in
     let ml : m ≤ length log = omega (arith, c.min-fitting.ensures) in
     λ reached.
-        commit_in_part s (state_of c.commit.new.self) c.commit.result m log c.commit.new.log ml
-        (omega (arith, c.commit.ensures.writes_within_the_log, length-take-le m log ml)) (c.commit.ensures.does_what_the_rule_says reached)
-        ∙ ap (λ (k : ℕ). put_into log (commit s k)) c.min-fitting.ensures
-        ∙ ap (perform_into log (setting_of c.args.self.now) s) (sym c.in-Commit.is)
+    commit_in_part s (state_of c.commit.new.self) c.commit.result m log c.commit.new.log ml
+    (omega (arith, c.commit.ensures.writes_within_the_log, length-take-le m log ml)) (c.commit.ensures.does_what_the_rule_says reached)
+    ∙ ap (λ (k : ℕ). put_into log (commit s k)) c.min-fitting.ensures
+    ∙ ap (perform_into log (setting_of c.args.self.now) s) (sym c.in-Commit.is)

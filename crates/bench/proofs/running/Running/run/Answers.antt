@@ -87,6 +87,6 @@ returns-clause-does_what_the_rule_says g c =
       ran c.len-2.result,
     ) in
     λ reached. ap F eb
-        ∙ run_is C S k m sends out (rest_of (os k)) (g.R.Rack.rows c.take.new.self) (queues_of last) (on_way c.send.new.self) c.len-2.result
-        (first_some (os k) m em) (omega (arith, c.boards-boards.ensures)) (omega arith) few
-        c.in-Ok.ensures.answer c.in-Ok.ensures.left eout eq et c.len-2.ensures
+    ∙ run_is C S k m sends out (rest_of (os k)) (g.R.Rack.rows c.take.new.self) (queues_of last) (on_way c.send.new.self) c.len-2.result
+    (first_some (os k) m em) (omega (arith, c.boards-boards.ensures)) (omega arith) few
+    c.in-Ok.ensures.answer c.in-Ok.ensures.left eout eq et c.len-2.ensures
