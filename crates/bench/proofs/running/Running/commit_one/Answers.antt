@@ -13,8 +13,18 @@ use Rattle.queues.proofs.Boards.{board_at}
 use Rattle.bench.specs.Benches.{state_of}
 use Rattle.bench.specs.Counts.{all_standing}
 use Rattle.bench.specs.Logs.{message_of}
-use Rattle.bench.proofs.Standing.{front_there, entry_standing, entry_issued, shed_one_less, shed_issued}
+use Rattle.bench.proofs.Standing.{front_there, front_inside, entry_standing, entry_issued, shed_one_less, shed_issued}
+use Rattle.bench.proofs.running.Running.commit_one.Given as given
 use Rattle.bench.proofs.running.Running.commit_one.Goals as goal
+use Rattle.bench.proofs.running.Running.commit_one.Goals.{After-shed}
+
+-- the front's board has shed its first event
+sheds : (g : given.Over) (c : After-shed g) → queues_of c.shed.new.self ≡ shed 1 (board_in c.args.self.now.table c.in_ok-front.front.board)
+sheds g c =
+    let b = c.args.self.now in
+    let f = c.in_ok-front.front in
+    let at = board_at b.table.entries f.board c.index-self-place.result (front_inside b.table f c.in_ok-front.ensures) in
+    c.shed.ensures (omega (arith, ap issued at, b.numbered f.board, b.bounded)) ∙ ap (shed 1) (sym at)
 
 pub invariant_of-self : goal.invariant_of-self
 invariant_of-self g c =
@@ -25,8 +35,7 @@ invariant_of-self g c =
     let last = c.shed.new.self in
     let old = board_in b.table p in
     let there = front_there b.table f c.in_ok-front.ensures in
-    let at = board_at bs p c.index-self-place.result there.0 in
-    let e : queues_of last ≡ shed 1 old = c.shed.ensures (omega (arith, ap issued at, b.numbered p, b.bounded)) ∙ ap (shed 1) (sym at) in
+    let e = sheds g (goal.at.invariant_of-self g c).After-shed in
     let more : issued (queues_of last) ≤ 2 * b.runs = omega (arith, ap issued e, shed_issued old, b.numbered p) in
     let counted : b.undone + (b.committed + 1) + all_standing (map queues_of (set bs p last)) ≡ b.runs =
     omega (arith, entry_standing bs p last there.0, b.counted, ap (λ (x : Queues). length x.standing) e, shed_one_less old f.message there.1) in
@@ -47,9 +56,7 @@ returns-clause-takes_the_next_line g c =
     let p = f.board in
     let last = c.shed.new.self in
     let s = state_of b in
-    let there = front_there b.table f c.in_ok-front.ensures in
-    let at = board_at bs p c.index-self-place.result there.0 in
-    let e : queues_of last ≡ shed 1 (board_in b.table p) = c.shed.ensures (omega (arith, ap issued at, b.numbered p, b.bounded)) ∙ ap (shed 1) (sym at) in
+    let e = sheds g (goal.at.returns-clause-takes_the_next_line g c).After-shed in
     let with_line : List Row → List Queues → State = λ x y. record {
       rows = x;
       boards = y;
