@@ -9,7 +9,6 @@ use racks::Rack;
 
 impl<R: Rack> Running<R> {
     // Delivers the item in transit with this index, the oldest being 0, and answers how many events were undone.
-    #[tactic(auto, using(crate::proofs::Deliveries::undone_within))]
     pub fn deliver(&mut self, index: usize) -> Result<usize, Refusal>
         ensures does_what_the_rule_says { (state_of self.new, delivered_or result) ≡ deliver (state_of self.old) index }
         ensures keeps_the_setting { setting_of self.new ≡ setting_of self.old }

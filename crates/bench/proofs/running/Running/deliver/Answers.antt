@@ -1,7 +1,7 @@
 -- A delivery that passes all tests is the rule's, and the counts stay in bounds.
 use Rattle.std.proofs.Common.{◌≡◌, ◌+◌, ◌*◌, ◌≤◌, false, List, map, length, set, sym, ap, ◌∙◌, arith, length-take}
-use Rattle.std.proofs.lemmas.List.{length-set, length-map, map-set, set_past}
-use Rattle.model.specs.State.{Queues, issued}
+use Rattle.std.proofs.lemmas.List.{length-set, length-map, map-set, set_past, get_or_past}
+use Rattle.model.specs.State.{Queues, no_queues, issued}
 use Rattle.model.specs.Deliver.{arrive, deliver}
 use Rattle.queues.specs.declared.plan.Plan.{Plan}
 use Rattle.queues.specs.Arrivals.{arrived, no_place}
@@ -13,7 +13,7 @@ use Rattle.queues.proofs.Changes.{stay_within}
 use Rattle.bench.specs.Benches.{state_of}
 use Rattle.bench.specs.Counts.{all_standing}
 use Rattle.bench.proofs.Standing.{entry_standing, entry_issued}
-use Rattle.bench.proofs.Deliveries.{Gave, delivered_is, arrived_is, stay_stand, issued_no_more, recalled_small}
+use Rattle.bench.proofs.Deliveries.{undone_within, Gave, delivered_is, arrived_is, stay_stand, issued_no_more, recalled_small}
 use Rattle.bench.proofs.running.Running.deliver.Given as given
 use Rattle.bench.proofs.running.Running.deliver.Goals as goal
 use Rattle.bench.proofs.running.Running.deliver.Goals.{After-back, After-arrive}
@@ -23,6 +23,18 @@ overflow_add-len g c =
     let b = c.args.self.now in
     let p = c.from-place.result in
     omega (arith, ap (λ (x : Plan). x.recalled) c.plan-plan.ensures, recalled_small c.in_ok-item.item (board_in b.table p), b.numbered p, b.bounded, c.len.ensures, b.transit.fits, length-take b.transit.count b.transit.items)
+
+-- all that were undone ever are no more than the runs
+undone_few : (g : given.Over) (c : After-back g) → c.args.self.now.undone + c.plan-plan.result.undone ≤ c.args.self.now.runs
+undone_few g c =
+    let b = c.args.self.now in
+    omega (arith, undone_within b.table c.from-place.result c.in_ok-item.item c.plan-plan.result c.plan-plan.ensures, b.counted)
+
+pub overflow_cast-self : goal.overflow_cast-self
+overflow_cast-self g c = omega (arith, undone_few g (goal.at.overflow_cast-self g c).After-back, c.args.self.now.bounded)
+
+pub overflow_add-self : goal.overflow_add-self
+overflow_add-self g c = omega (arith, undone_few g (goal.at.overflow_add-self g c).After-back, c.args.self.now.bounded)
 
 -- the item has arrived at its board
 arrives : (g : given.Over) (c : After-arrive g) → queues_of c.arrive.new.self ≡ arrived c.in_ok-item.item (board_in c.args.self.now.table c.from-place.result)
@@ -44,6 +56,14 @@ invariant_of-self-then-place-lt-MOST_BOARDS g c =
     let counted : b.undone + c.plan-plan.result.undone + b.committed + all_standing (map queues_of (set bs p last)) ≡ b.runs =
     omega (arith, entry_standing bs p last (omega arith), b.counted, ap (λ (x : Queues). length x.standing) e, stay_stand item q, stay_within item q, ap (λ (x : Plan). x.undone) c.plan-plan.ensures) in
     record { eight = length-set bs p last ∙ b.eight; bounded = b.bounded; counted = counted; numbered = entry_issued bs p last (2 * b.runs) b.numbered more }
+
+pub invariant_of-self-else-place-lt-MOST_BOARDS : goal.invariant_of-self-else-place-lt-MOST_BOARDS
+invariant_of-self-else-place-lt-MOST_BOARDS g c =
+    let b = c.args.self.now in
+    let p = c.from-place.result in
+    let none : board_in b.table p ≡ no_queues = get_or_past (boards_in b.table) p no_queues (omega (arith, b.eight, length-map b.table.entries queues_of)) in
+    let zero : c.plan-plan.result.undone ≡ 0 = omega (arith, ap (λ (x : Plan). x.undone) c.plan-plan.ensures, ap (λ (x : Queues). length x.standing) none) in
+    record { eight = b.eight; bounded = b.bounded; counted = omega (arith, b.counted, zero); numbered = b.numbered }
 
 -- the boards with the arrival, whichever way they come about, make it the rule's
 told : (g : given.Over) (c : After-back g) (boards : List Queues) → boards ≡ set (boards_in c.args.self.now.table) c.from-place.result (arrived c.in_ok-item.item (board_in c.args.self.now.table c.from-place.result)) →
