@@ -1,12 +1,14 @@
 -- Calls one after the other: what is written once some are played.
-use Rattle.std.proofs.Common.{◌≡◌, ℕ, suc, ◌+◌, ◌-◌, ◌<◌, ◌≤◌, min, Bool, List, [], ◌∷◌, ◌++◌, map, length, take, drop, set, sym, refl, ap, ◌∙◌, subst, inl, inr, add-one, arith}
-use Rattle.std.proofs.lemmas.List.{append_assoc, append-nil, length-append, length-map, length-drop, map-append, take_at, drop_at, drop-drop, take_all, take_rest, set_split}
+use Rattle.std.proofs.Common.{◌≡◌, ℕ, suc, ◌+◌, ◌-◌, ◌<◌, ◌≤◌, min, Bool, List, [], ◌∷◌, ◌++◌, map, length, take, drop, set, sym, refl, ap, ◌∙◌, subst, inl, inr, arith}
+use Rattle.std.proofs.lemmas.List.{append_assoc, append-nil, length-append, length-map, length-drop, map-append, take_at, drop_at, drop-drop, drop_all, take_all, take_rest}
 use Rattle.std.proofs.lemmas.Bool.{cases_Bool, cases_lt}
+use Rattle.rows.specs.Rows.{in_front}
 use Rattle.rows.proofs.Laws.{length_insert}
 use Rattle.bus.specs.declared.Message.{Message}
 use Rattle.bus.specs.declared.Words.{Words}
 use Rattle.bus.specs.Order.{message_before}
 use Rattle.savers.specs.Rows.{Row}
+use Rattle.racks.proofs.Fronts.{front_push}
 use Rattle.addressing.specs.Settings.{Setting}
 use Rattle.model.specs.declared.call.Call.{Call}
 use Rattle.model.specs.declared.call.Call.TheVariants.{Offer, Deliver, Run, Outlook, Commit}
@@ -20,7 +22,7 @@ use Rattle.model.specs.Outcomes.{outcome_of, lines_in}
 use Rattle.model.proofs.Transits.{flat_append}
 use Rattle.model.proofs.Reach.{after_append}
 use Rattle.model.proofs.Law.{law}
-use Rattle.bench.specs.Logs.{over, fitted, put_into, perform_into}
+use Rattle.bench.specs.Logs.{fitted, put_into, perform_into}
 use Rattle.bench.specs.Drives.{calls_with_memory}
 
 -- calls and then others
@@ -99,27 +101,21 @@ fitted_same c s n (Run k) h = refl
 fitted_same c s n Outlook h = refl
 fitted_same c s n (Commit most) h = ap (committing s) (take_min most n (in_order (finals s)) h)
 
--- a list behind another over the front of a memory
-pub over_push : {X : Type 0} (xs ys memory : List X) (n : ℕ) → n ≡ length xs → take n (over xs memory) ++ over ys (drop n (over xs memory)) ≡ over (xs ++ ys) memory
-over_push xs ys memory n e =
+-- a list behind another in front of a memory
+front_append : {X : Type 0} (xs ys memory : List X) (n : ℕ) → n ≡ length xs → take n (in_front xs memory) ++ in_front ys (drop n (in_front xs memory)) ≡ in_front (xs ++ ys) memory
+front_append xs ys memory n e =
     let tail = drop (length xs) memory in
-    ap (λ l. l ++ over ys (drop n (over xs memory))) (take_at xs tail n (sym e))
-    ∙ ap (λ l. xs ++ over ys l) (drop_at xs tail n (sym e))
+    ap (λ l. l ++ in_front ys (drop n (in_front xs memory))) (take_at xs tail n (sym e))
+    ∙ ap (λ l. xs ++ in_front ys l) (drop_at xs tail n (sym e))
     ∙ ap (λ l. xs ++ (ys ++ l)) (drop-drop (length ys) (length xs) memory)
     ∙ sym (append_assoc xs ys (drop (length xs + length ys) memory))
     ∙ ap (λ k. (xs ++ ys) ++ drop k memory) (sym (length-append xs ys))
 
-pub set_over : {X : Type 0} (x : X) (xs memory : List X) (i : ℕ) → i ≡ length xs → i < length memory → set (over xs memory) i x ≡ over (xs ++ (x ∷ [])) memory
-set_over x xs memory i e h =
-    let m = over xs memory in
-    let long : length m ≡ length memory = length-append xs (drop (length xs) memory) ∙ omega (arith, length-drop (length xs) memory) in
-    set_split m i x (omega arith) ∙ ap (λ k. take i m ++ (x ∷ drop k m)) (sym (add-one i)) ∙ ap (λ l. take i m ++ (x ∷ l)) (sym (drop-drop 1 i m)) ∙ over_push xs (x ∷ []) memory i e
-
 -- what holds once some calls are played
 pub record Played (c : Setting) (s₀ : State) (outs₀ : List Outcome) (log₀ : List Message) (xs : List Call) (s : State) (outs : List Outcome) (log : List Message) (n : ℕ) : Type 0 where
   pub state_is : s ≡ after c s₀ xs
-  pub outs_are : outs ≡ over (map outcome_of (answers c s₀ xs)) outs₀
-  pub log_is : log ≡ over (lines (answers c s₀ xs)) log₀
+  pub outs_are : outs ≡ in_front (map outcome_of (answers c s₀ xs)) outs₀
+  pub log_is : log ≡ in_front (lines (answers c s₀ xs)) log₀
   pub count_is : n ≡ length (lines (answers c s₀ xs))
 
 pub played_none : (c : Setting) (s₀ : State) (outs₀ : List Outcome) (log₀ : List Message) → Played c s₀ outs₀ log₀ [] s₀ outs₀ log₀ 0
@@ -146,67 +142,62 @@ module _ (c : Setting) (s₀ : State) (outs₀ : List Outcome) (log₀ : List Me
       told_lines : lines_in o ≡ length (lines_of a)
       told_lines = ap lines_in (ap (λ (x : State × Outcome × List Message). x.1) e) ∙ lines_told a
 
-      told_part : part ≡ over (lines_of a) (drop n log)
+      told_part : part ≡ in_front (lines_of a) (drop n log)
       told_part = ap (λ (x : State × Outcome × List Message). x.2) e
 
       pub told_within : length part ≡ length (drop n log) → n + lines_in o ≤ length log
       told_within same = omega (arith, told_lines, ap length told_part, length-append (lines_of a) (drop (length (lines_of a)) (drop n log)), length-drop n log, played_within, same)
 
-      pub played_more : length xs < length outs₀ → Played c s₀ outs₀ log₀ (xs ++ (call ∷ [])) s' (set outs (length xs) o) (take n log ++ part) (n + lines_in o)
-      played_more io =
+      pub played_more : (i m k : ℕ) → i ≡ length xs → i < length outs₀ → m ≡ lines_in o → length (drop n log) ≤ k →
+          Played c s₀ outs₀ log₀ (xs ++ (call ∷ [])) s' (set outs i o) (take n log ++ (part ++ drop k (drop n log))) (n + m)
+      played_more i m k at io wrote all =
           let outs-so = map outcome_of (answers c s₀ xs) in
           let lines-so = lines (answers c s₀ xs) in
-          let i = length xs in
           let es : s' ≡ (perform c s call).0 = ap (λ (x : State × Outcome × List Message). x.0) e in
           let eo : o ≡ outcome_of a = ap (λ (x : State × Outcome × List Message). x.1) e in
-          let many : i ≡ length outs-so = sym (length-map (answers c s₀ xs) outcome_of ∙ answers_length c xs s₀) in
+          let many : i ≡ length outs-so = at ∙ sym (length-map (answers c s₀ xs) outcome_of ∙ answers_length c xs s₀) in
           record {
             state_is = es ∙ sym after_more;
-            outs_are = ap (set outs i) eo ∙ ap (λ l. set l i (outcome_of a)) p.outs_are ∙ set_over (outcome_of a) outs-so outs₀ i many io
-                ∙ ap (λ l. over l outs₀) (sym (ap (map outcome_of) answers_more ∙ map-append outcome_of (answers c s₀ xs) (a ∷ [])));
-            log_is = ap (λ l. take n log ++ l) told_part ∙ ap (λ l. take n l ++ over (lines_of a) (drop n l)) p.log_is ∙ over_push lines-so (lines_of a) log₀ n p.count_is ∙ ap (λ l. over l log₀) (sym lines_more);
-            count_is = ap (λ k. n + k) told_lines ∙ omega (arith, p.count_is, ap length lines_more, length-append lines-so (lines_of a));
+            outs_are = ap (set outs i) eo ∙ ap (λ l. set l i (outcome_of a)) p.outs_are ∙ front_push outs-so outs₀ i (outcome_of a) (sym many) io
+                ∙ ap (λ l. in_front l outs₀) (sym (ap (map outcome_of) answers_more ∙ map-append outcome_of (answers c s₀ xs) (a ∷ [])));
+            log_is = ap (λ l. take n log ++ l) (ap (λ l. part ++ l) (drop_all k (drop n log) all) ∙ append-nil part ∙ told_part) ∙ ap (λ l. take n l ++ in_front (lines_of a) (drop n l)) p.log_is ∙ front_append lines-so (lines_of a) log₀ n p.count_is ∙ ap (λ l. in_front l log₀) (sym lines_more);
+            count_is = ap (λ j. n + j) (wrote ∙ told_lines) ∙ omega (arith, p.count_is, ap length lines_more, length-append lines-so (lines_of a));
           }
 
--- the same of the bench that a set-up starts
-module _ (cu : Setting) (starts : List Words) (rows : List Row) (u : SetUp cu starts rows) (ce : Setting) (eu : ce ≡ cu) (s₀ : State) (es : s₀ ≡ started rows)
-    (outs₀ : List Outcome) (log₀ : List Message) (xs : List Call) (s : State) (outs : List Outcome) (log : List Message) (n : ℕ) (p : Played ce s₀ outs₀ log₀ xs s outs log n) where
-  pub played_so : Played cu (started rows) outs₀ log₀ xs s outs log n
-  played_so =
-      subst (λ (c : Setting). Played c (started rows) outs₀ log₀ xs s outs log n) eu
-      (subst (λ (x : State). Played ce x outs₀ log₀ xs s outs log n) es p)
-
+-- the run of a bench whose savers have begun
+module _ (c : Setting) (starts : List Words) (rows : List Row) (u : SetUp c starts rows)
+    (outs₀ : List Outcome) (log₀ : List Message) (xs : List Call) (s : State) (outs : List Outcome) (log : List Message) (n : ℕ) (p : Played c (started rows) outs₀ log₀ xs s outs log n) where
   room_left : length log ≡ length log₀ → length xs ≤ length log₀ → length (in_order (finals s)) ≤ length (drop n log)
   room_left same few = omega (
     arith,
-    finals_within cu starts rows u xs,
-    ap (λ (x : State). length (in_order (finals x))) played_so.state_is,
-    played_so.count_is,
+    finals_within c starts rows u xs,
+    ap (λ (x : State). length (in_order (finals x))) p.state_is,
+    p.count_is,
     length-drop n log,
     same,
     few,
   )
 
   -- what a turn of the loop is told
-  module _ (cl : Setting) (el : cl ≡ ce) where
-    pub reached_so : Reached cl s
+  module _ (now : Setting) (kept : now ≡ c) where
+    pub reached_so : Reached now s
     reached_so = record {
       starts = starts;
       rows = rows;
       calls = xs;
-      set_up = subst (λ (c : Setting). SetUp c starts rows) (sym (el ∙ eu)) u;
-      by_calls = ap (λ (c : Setting). after c (started rows) xs) (el ∙ eu) ∙ sym played_so.state_is;
+      set_up = subst (λ (x : Setting). SetUp x starts rows) (sym kept) u;
+      by_calls = ap (λ (x : Setting). after x (started rows) xs) kept ∙ sym p.state_is;
     }
 
-    pub turn_told : (call : Call) (r : State × Outcome × List Message) → length log ≡ length log₀ → length xs ≤ length log₀ → r ≡ perform_into (take (length log - n) (drop n log)) cl s call →
-        r ≡ put_into (drop n log) (perform ce s call)
+    pub turn_told : (call : Call) (r : State × Outcome × List Message) → length log ≡ length log₀ → length xs ≤ length log₀ → r ≡ perform_into (take (length log - n) (drop n log)) now s call →
+        r ≡ put_into (drop n log) (perform c s call)
     turn_told call r same few e =
-        e ∙ ap (λ (x : List Message). perform_into x cl s call) (take_rest log n) ∙ ap (λ (c : Setting). perform_into (drop n log) c s call) el
-        ∙ ap (put_into (drop n log)) (fitted_same ce s (length (drop n log)) call (room_left same few))
+        e ∙ ap (λ (x : List Message). perform_into x now s call) (take_rest log n) ∙ ap (λ (x : Setting). perform_into (drop n log) x s call) kept
+        ∙ ap (put_into (drop n log)) (fitted_same c s (length (drop n log)) call (room_left same few))
 
 -- as many calls as there is memory for
-pub all_played : (calls : List Call) (outs : List Outcome) (log : List Message) → take (min (min (length calls) (length outs)) (length log)) calls ≡ calls_with_memory calls outs log
-all_played calls outs log = elim (cases_lt (length calls) (min (length outs) (length log))) [
-  | inl l ↦ take_all (min (min (length calls) (length outs)) (length log)) calls (omega arith) ∙ sym (take_all (min (length outs) (length log)) calls (omega arith))
-  | inr l ↦ let e : min (min (length calls) (length outs)) (length log) ≡ min (length outs) (length log) = omega arith in ap (λ (k : ℕ). take k calls) e
+pub all_played : (calls : List Call) (outs : List Outcome) (log : List Message) (many : ℕ) → many ≡ min (min (length calls) (length outs)) (length log) → take many calls ≡ calls_with_memory calls outs log
+all_played calls outs log many e = elim (cases_lt (length calls) (min (length outs) (length log))) [
+  | inl l ↦ take_all many calls (omega arith) ∙ sym (take_all (min (length outs) (length log)) calls (omega arith))
+  | inr l ↦ let same : many ≡ min (length outs) (length log) = omega arith in ap (λ (k : ℕ). take k calls) same
 ]

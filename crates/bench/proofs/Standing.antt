@@ -66,6 +66,10 @@ front_there t f e =
     let z : f.board ≡ f.board - 0 = omega arith in
     (omega (arith, there.1, length-map t.entries queues_of), ap (λ (k : ℕ). front_of (board_in t k)) z ∙ there.2)
 
+-- and so it is below the table's end
+pub front_inside : (t : Table) (f : Front) → Some f ≡ soonest 0 (boards_in t) → f.board < length t.entries
+front_inside t f e = (front_there t f e).0
+
 some_stand : (es : List Event) (m : Message) → first_event es ≡ Some m → 1 ≤ length es
 some_stand [] m e = let z : ◌≡◌ {A = ℕ} 0 1 = cc in absurd (omega arith)
 some_stand (x ∷ es) m e = omega arith

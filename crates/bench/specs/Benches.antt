@@ -1,7 +1,5 @@
 -- What a running bench stands for, and what its calls return.
-use Rattle.std.specs.Prelude.{ℕ, List, Ok, Err, Result}
-use Rattle.bus.specs.Reactions.{Rule}
-use Rattle.savers.specs.Rows.{Row}
+use Rattle.std.specs.Prelude.{ℕ, Ok, Err, Result}
 use Rattle.racks.specs.declared.rack.Rack.{Ghosts}
 use Rattle.addressing.specs.Settings.{Setting}
 use Rattle.model.specs.declared.refusal.Refusal.{Refusal}
@@ -16,18 +14,21 @@ pub record Bench : Type 0 where
   pub state : State
 
 -- the state of a bench, with the rows of its rack
-abbrev pub state_of : {R : Type 0} {rack : Ghosts R} → (R → List Row) → Running R rack → State
-state_of rows b = record {
-  rows = rows b.rack;
+abbrev pub state_of : {R : Type 0} {rack : Ghosts R} → Running R rack → State
+state_of {rack = rack} b = record {
+  rows = rack.rows b.rack;
   boards = boards_in b.table;
   transit = on_way b.transit;
   counters = record { offers = b.offers; runs = b.runs; committed = b.committed; undone = b.undone };
   last = b.last;
 }
 
--- a bench over a rack with these rules and rows
-abbrev pub bench_of : {R : Type 0} {rack : Ghosts R} → List Rule → (R → List Row) → Running R rack → Bench
-bench_of rules rows b = record { setting = record { rules = rules; end = b.end }; state = state_of rows b }
+-- the setting of a bench, with the rules of its rack
+abbrev pub setting_of : {R : Type 0} {rack : Ghosts R} → Running R rack → Setting
+setting_of {rack = rack} b = record { rules = rack.rules; end = b.end }
+
+abbrev pub bench_of : {R : Type 0} {rack : Ghosts R} → Running R rack → Bench
+bench_of b = record { setting = setting_of b; state = state_of b }
 
 -- what a call returns, as its answer
 abbrev pub offered_or : Result ℕ Refusal → Answer

@@ -1,5 +1,6 @@
 -- Calls that write their lines into a log.
-use Rattle.std.specs.Prelude.{ℕ, min, List, ◌++◌, length, drop, Some, None, Option}
+use Rattle.std.specs.Prelude.{ℕ, min, List, length, Some, None, Option}
+use Rattle.rows.specs.Rows.{in_front}
 use Rattle.bus.specs.declared.Message.{Message}
 use Rattle.addressing.specs.Settings.{Setting}
 use Rattle.model.specs.declared.call.Call.{Call}
@@ -11,10 +12,6 @@ use Rattle.model.specs.Commit.{commit, lines_of_commit}
 use Rattle.model.specs.Perform.{perform, lines_of}
 use Rattle.model.specs.Outcomes.{outcome_of}
 
--- a list written over the front of a memory, whose rest stays
-abbrev pub over : {X : Type 0} → List X → List X → List X
-over xs memory = xs ++ drop (length xs) memory
-
 abbrev pub message_of : Option Front → Option Message
 message_of None = None
 message_of (Some f) = Some f.message
@@ -23,7 +20,7 @@ message_of (Some f) = Some f.message
 abbrev pub commit_into : List Message → State → State × ℕ × List Message
 commit_into log s =
     let lines = lines_of_commit s (length log) in
-    ((commit s (length log)).0, length lines, over lines log)
+    ((commit s (length log)).0, length lines, in_front lines log)
 
 -- a commit writes no more lines than there is memory for
 abbrev pub fitted : ℕ → Call → Call
@@ -35,7 +32,7 @@ fitted n (Commit most) = Commit (min most n)
 
 -- what a call came to: the state after it, its outcome, and the log with its lines in front
 abbrev pub put_into : List Message → State × Answer → State × Outcome × List Message
-put_into log r = (r.0, outcome_of r.1, over (lines_of r.1) log)
+put_into log r = (r.0, outcome_of r.1, in_front (lines_of r.1) log)
 
 abbrev pub perform_into : List Message → Setting → State → Call → State × Outcome × List Message
 perform_into log c s call = put_into log (perform c s (fitted (length log) call))

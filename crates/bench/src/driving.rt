@@ -23,22 +23,20 @@ pub fn drive<R: Rack>(
     outcomes: &mut [Outcome],
     log: &mut [Message],
 ) -> Driven<R>
-    ensures outcomes_and_lines_are_the_models_and_lawful { let start = start_of R.Rack.rules R.Rack.rows setup in
-        let played = calls_with_memory calls.now outcomes.old log.old in
-        let bench = bench_of R.Rack.rules R.Rack.rows result.bench in
-        Drives start played bench outcomes.old outcomes.new log.old log.new result.played result.lines }
+    ensures outcomes_and_lines_are_the_models_and_lawful { let played = calls_with_memory calls.now outcomes.old log.old in
+        Drives (start_of setup) played (bench_of result.bench) outcomes.old outcomes.new log.old log.new result.played result.lines }
 {
+    let played = &calls[..calls.len().min(outcomes.len()).min(log.len())];
     let mut bench = setup.start();
     let mut lines = 0;
-    let many = calls.len().min(outcomes.len()).min(log.len());
-    for i in 0..many {
-        let outcome = bench.perform(&calls[i], &mut log[lines..]);
+    for (i, call) in played.iter().enumerate() {
+        let outcome = bench.perform(call, &mut log[lines..]);
         lines += outcome.lines();
         outcomes[i] = outcome;
     }
     Driven {
         bench,
-        played: many,
+        played: played.len(),
         lines,
     }
 }

@@ -3,6 +3,7 @@ ghost use Rattle.std.specs.Prelude.{◌≡◌, ℕ, ◌+◌, ◌*◌, ◌≤◌,
 ghost use Rattle.model.specs.State.{issued};
 ghost use Rattle.queues.specs.Entries.{board_in, boards_in};
 ghost use Rattle.bench.specs.Counts.{all_standing};
+ghost use Rattle.bench.specs.declared.running.TheConstants.{MOST_RUNS};
 
 use bus::Message;
 use queues::{Table, Transit};
@@ -20,6 +21,9 @@ mod reacting;
 // How many places transit has.
 const TRANSIT_PLACES: usize = 128;
 
+// How many runs a bench accepts.
+const MOST_RUNS: u32 = 1_000_000_000;
+
 // How many boards a bus has at most.
 const MOST_BOARDS: usize = 8;
 
@@ -36,7 +40,7 @@ pub struct Running<R: Rack> {
     // the last committed line
     last: Option<Message>,
     ghost eight: { length table.entries ≡ 8 },
-    ghost bounded: { runs ≤ 1000000000 },
+    ghost bounded: { runs ≤ MOST_RUNS },
     ghost counted: { undone + committed + all_standing (boards_in table) ≡ runs },
     ghost numbered: { ((k : ℕ) → issued (board_in table k) ≤ 2 * runs) },
 }

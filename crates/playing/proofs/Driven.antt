@@ -12,7 +12,7 @@ use Rattle.model.specs.Outcomes.{outcome_of}
 use Rattle.bench.specs.declared.closed.Totals.{Totals}
 use Rattle.bench.specs.Benches.{Bench}
 use Rattle.bench.specs.Setups.{Start, first_rows}
-use Rattle.bench.specs.Logs.{over}
+use Rattle.rows.specs.Rows.{in_front}
 use Rattle.bench.specs.Ends.{totals_of}
 use Rattle.bench.specs.Drives.{Drives, calls_with_memory}
 use Rattle.playing.specs.Runs.{setting, told_by, left_by}
@@ -29,15 +29,15 @@ all_with_memory calls outcomes log o l =
     take_all (min (length outcomes) (length log)) calls enough
 
 -- a list written over a memory that has no more than it
-covers : {X : Type 0} (xs memory : List X) → length memory ≤ length xs → over xs memory ≡ xs
+covers : {X : Type 0} (xs memory : List X) → length memory ≤ length xs → in_front xs memory ≡ xs
 covers xs memory h = ap (λ l. xs ++ l) (drop_all (length xs) memory h) ∙ append-nil xs
 
 -- memories over which all outcomes and lines were written, and the totals of the bench that was left
 tells_all : (end : ℕ) (calls : List Call) (outcomes₀ outcomes : List Outcome) (log₀ log : List Message) (written : ℕ) (state : State) (totals : Totals)
     → length outcomes₀ ≡ length calls
     → state ≡ left_by end calls
-    → outcomes ≡ over (map outcome_of (told_by end calls)) outcomes₀
-    → log ≡ over (lines (told_by end calls)) log₀
+    → outcomes ≡ in_front (map outcome_of (told_by end calls)) outcomes₀
+    → log ≡ in_front (lines (told_by end calls)) log₀
     → written ≡ length (lines (told_by end calls))
     → totals ≡ totals_of state
     → Tells end calls outcomes (take written log) totals
@@ -66,7 +66,7 @@ drives_all end calls u bench outcomes₀ outcomes log₀ log count written total
     let left : after u.setting (started (first_rows u)) calls ≡ left_by end calls = rw (set, begins) in
     tells_all end calls outcomes₀ outcomes log₀ log written bench.state totals room
     (d.state_is_the_models ∙ left)
-    (d.outcomes_are_the_models ∙ ap (λ told. over (map outcome_of told) outcomes₀) same)
-    (d.log_holds_the_committed_lines ∙ ap (λ told. over (lines told) log₀) same)
+    (d.outcomes_are_the_models ∙ ap (λ told. in_front (map outcome_of told) outcomes₀) same)
+    (d.log_holds_the_committed_lines ∙ ap (λ told. in_front (lines told) log₀) same)
     (d.lines_are_counted ∙ ap (λ told. length (lines told)) same)
     ends

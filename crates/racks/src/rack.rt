@@ -1,7 +1,8 @@
 // What a rack is: savers side by side, each called by its address from 0 on. A call to an address that has none is refused before anything else.
-ghost use Rattle.std.specs.Prelude.{◌≡◌, ℕ, min, List, length};
+ghost use Rattle.std.specs.Prelude.{◌≡◌, ℕ, min, List, length, take};
 ghost use Rattle.bus.specs.Reactions.{Rule};
 ghost use Rattle.savers.specs.Rows.{Row};
+ghost use Rattle.racks.specs.Starts.{with_words};
 ghost use Rattle.racks.specs.Racks.{Sized, rows_begun, rows_taken, rows_back, rows_forgot, answers_begun, answers_taken, answers_if_has, newest_at, follow_at};
 
 use super::refusal::Refusal;
@@ -29,6 +30,16 @@ pub trait Rack {
     fn begin(&mut self, address: u8, start: Words) -> Result<(), Refusal>
         ensures left { rows self.new ≡ rows_begun (rows self.old) address start }
         ensures answer { result ≡ answers_begun (rows self.old) address };
+
+    // Makes the row of each board on the bus a start alone, with the board's own start words.
+    fn begin_all(&mut self, starts: &[Words; 8])
+        ensures { rows self.new ≡ with_words (take (min (length rules) 8) starts.now) (rows self.old) }
+    {
+        for (address, start) in (0..Self::boards()).zip(starts) {
+            // the rack has every board below that number, so this is never refused
+            let _ = self.begin(address, *start);
+        }
+    }
 
     // Lets the board at an address react to a message, and answers its sends.
     fn take(&mut self, address: u8, message: &Message) -> Result<Sends, Refusal>

@@ -13,11 +13,12 @@ use Rattle.savers.specs.Rows.{Row}
 use Rattle.addressing.specs.Settings.{boards_of}
 use Rattle.sequential.specs.Sequential.{Machine, fresh, advance, step_on}
 use Rattle.sequential.specs.Laws.{LawfulLog}
-use Rattle.sequential.specs.Racks.{alone, with_words, rows_after, messages_after, sent_after}
+use Rattle.racks.specs.Starts.{alone, with_words}
+use Rattle.racks.proofs.Fronts.{front_over}
+use Rattle.sequential.specs.Racks.{rows_after, messages_after, sent_after}
 use Rattle.sequential.specs.Runs.{setting_of, starts_of, ran, pending_memory, next_of, next_in}
 use Rattle.sequential.proofs.Logs.{steps_more, lawful}
 use Rattle.sequential.proofs.Turns.{sending_short}
-use Rattle.sequential.proofs.Fronts.{front_over}
 use Rattle.sequential.proofs.Ties.{Next, next_told, Tied, less_short, sends_turn, pending_turn, tied_turn}
 
 module _ (rules : List Rule) (end : ℕ) (starts : List Words) (memory₀ : List Message) (count lines : ℕ) (rows₀ : List Row) (log₀ : List Message) where

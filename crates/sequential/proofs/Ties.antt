@@ -12,10 +12,11 @@ use Rattle.bus.specs.Reactions.{Rule}
 use Rattle.savers.specs.Rows.{Row}
 use Rattle.addressing.specs.Settings.{Setting, boards_of}
 use Rattle.sequential.specs.Sequential.{Machine, sending, advance}
-use Rattle.sequential.specs.Racks.{with_words, rows_after, messages_after, sent_after}
+use Rattle.racks.specs.Starts.{with_words}
+use Rattle.racks.proofs.Fronts.{front_over, front_push}
+use Rattle.sequential.specs.Racks.{rows_after, messages_after, sent_after}
 use Rattle.sequential.specs.Runs.{setting_of, next_or}
 use Rattle.sequential.proofs.Firsts.{least_is, length_without_one}
-use Rattle.sequential.proofs.Fronts.{front_over, front_push}
 use Rattle.sequential.proofs.Turns.{sending_short, sending_out, words_out, sent_out, rows_in, sending_in}
 
 -- ---- what it says that a message comes next

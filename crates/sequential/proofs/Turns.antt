@@ -11,7 +11,8 @@ use Rattle.savers.specs.Rows.{Row, row_taken, row_forgot, answer_taken}
 use Rattle.racks.specs.Racks.{rule_at, row_at, passed_on}
 use Rattle.addressing.specs.Settings.{Setting, boards_of, rule_of, passes, addressed_in}
 use Rattle.sequential.specs.Sequential.{Machine, reaction, sending, advance}
-use Rattle.sequential.specs.Racks.{alone, with_words, rows_reacted, sends_of, sends_reacted}
+use Rattle.racks.specs.Starts.{alone, with_words}
+use Rattle.sequential.specs.Racks.{rows_reacted, sends_of, sends_reacted}
 use Rattle.sequential.specs.Runs.{setting_of}
 
 -- at most two messages come of one reaction

@@ -1,6 +1,6 @@
 -- What holds of every log that the one-by-one machine writes.
 use Rattle.std.specs.Prelude.{◌≡◌, ℕ, ◌+◌, ◌<◌, true, ◌⊎◌, List, [], length, Some, slice_index_or}
-use Rattle.std.specs.List.{ContainsAt}
+use Rattle.std.specs.List.{Contains}
 use Rattle.bus.specs.declared.Message.{Message}
 use Rattle.bus.specs.declared.Words.{Words}
 use Rattle.bus.specs.Order.{message_before}
@@ -19,11 +19,11 @@ line log i = slice_index_or log i (record { time = 0; source = 0; number = 0; de
 -- line i is among the messages that the machine sent when it took line j, and j is the earlier one
 pub record SentBy (c : Setting) (starts : List Words) (stimuli log : List Message) (i j : ℕ) : Type 0 where
   pub earlier : j < i
-  pub sent : ContainsAt (sending c (after c starts stimuli j) (line log j)) (line log i)
+  pub sent : Contains (sending c (after c starts stimuli j) (line log j)) (line log i)
 
 -- line i is a stimulus, or an earlier line sent it
 abbrev pub Caused : Setting → List Words → List Message → List Message → ℕ → Type 0
-Caused c starts stimuli log i = ContainsAt stimuli (line log i) ⊎ ((j : ℕ) × SentBy c starts stimuli log i j)
+Caused c starts stimuli log i = Contains stimuli (line log i) ⊎ ((j : ℕ) × SentBy c starts stimuli log i j)
 
 -- what holds of the log of a machine that began so
 pub record LawfulLog (c : Setting) (starts : List Words) (stimuli log : List Message) : Type 0 where

@@ -1,22 +1,12 @@
 -- What the machine does to a rack: each board's saver holds the board's words alone.
-use Rattle.std.specs.Prelude.{ℕ, ◌+◌, min, Bool, cond, List, [], ◌∷◌, map, length, Ok, Err, Result, nat_lt, slice_index, slice_set}
+use Rattle.std.specs.Prelude.{ℕ, ◌+◌, min, Bool, cond, List, [], length, Ok, Err, Result, nat_lt, slice_index, slice_set}
 use Rattle.bus.specs.declared.Message.{Message}
-use Rattle.bus.specs.declared.Words.{Words}
 use Rattle.bus.specs.Reactions.{Sends, Rule, listed}
 use Rattle.bus.specs.declared.up_to_two.UpToTwo.TheVariants.{Nothing}
-use Rattle.rows.specs.Rows.{in_front}
 use Rattle.savers.specs.Rows.{Row}
 use Rattle.racks.specs.declared.refusal.Refusal.{Refusal}
 use Rattle.racks.specs.Racks.{rows_taken, rows_forgot, answers_taken}
 use Rattle.addressing.specs.Settings.{addressed_in}
-
--- a row that is a start alone
-abbrev pub alone : Words → Row
-alone w = w ∷ []
-
--- rows whose first ones are these words alone
-abbrev pub with_words : List Words → List Row → List Row
-with_words words rows = in_front (map alone words) rows
 
 -- the rows once the destination's saver has taken a message and forgotten the words before it
 abbrev pub rows_reacted : List Rule → List Row → Message → List Row

@@ -14,10 +14,7 @@ fn react<R: Rack>(rack: &mut R, message: &Message) -> Sends
 {
     let answer = rack.take(message.destination, message);
     let _ = rack.forget(message.destination, 1);
-    match answer {
-        Ok(sends) => sends,
-        Err(_) => Sends::Nothing,
-    }
+    answer.unwrap_or(Sends::Nothing)
 }
 
 // Takes a message on a bus that ends at this time, where each board has sent so many messages.

@@ -2,7 +2,6 @@
 #![tactic(auto)]
 
 mod advance;
-mod begin;
 mod cases;
 mod laws;
 mod machine;

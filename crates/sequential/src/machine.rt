@@ -2,11 +2,10 @@
 ghost use Rattle.std.specs.Prelude.{◌≡◌, ℕ, ◌<◌, true, length, take, is_ok, Err};
 ghost use Rattle.rows.specs.Rows.{in_front};
 ghost use Rattle.sequential.specs.Laws.{LawfulLog};
-ghost use Rattle.sequential.specs.Racks.{with_words};
+ghost use Rattle.racks.specs.Starts.{with_words};
 ghost use Rattle.sequential.specs.Runs.{setting_of, starts_of, ran, pending_memory, most_lines, next_in};
 
 use crate::advance::advance;
-use crate::begin::begin_all;
 use crate::outcome::Outcome;
 use crate::pending::{append, discard, next};
 use bus::{Message, Words};
@@ -43,11 +42,12 @@ pub fn run<R: Rack>(
         ((n : ℕ) → n < result.steps → is_ok (next_in (length pending.old) (most_lines (length log.old)) (machine n)) ≡ true) }
     ensures log_is_lawful { LawfulLog (setting_of R.Rack.rules end) (starts_of R.Rack.rules end starts.now) (take count pending.old) (take result.steps log.new) }
 {
-    begin_all(rack, starts);
+    rack.begin_all(starts);
     let lines = log.len().min(MOST_LINES);
     let mut sent = [0; 8];
     let mut held = rows::row(pending, count).len();
     let mut steps = 0;
+    // no `for` over the log: behind its last place it would have to ask `next` once more why the run ends
     loop {
         match next(pending, held, steps, lines) {
             Err(ended) => return Outcome {

@@ -32,6 +32,7 @@ pub(crate) fn discard(pending: &mut [Message], held: usize, message: &Message) -
     ensures answer { result ≡ length (without_one message_before message.now (take held pending.old)) }
     ensures after { pending.new ≡ in_front (without_one message_before message.now (take held pending.old)) pending.old }
 {
+    // no `map_or_else`: its two closures would borrow the memory at once
     match rows::find(pending, held, message) {
         Some(place) => rows::remove(pending, held, place),
         None => rows::row(pending, held).len(),
@@ -45,15 +46,11 @@ pub(crate) fn append(pending: &mut [Message], held: usize, batch: &Batch) -> usi
     ensures after { pending.new ≡ in_front (take held pending.old ++ listed batch.now) pending.old }
 {
     match batch {
-        Batch::Nothing => held,
-        Batch::One(message) => {
-            pending[held] = *message;
-            held + 1
-        }
+        Batch::Nothing => {}
+        Batch::One(message) => pending[held] = *message,
         Batch::Two(first, second) => {
-            pending[held] = *first;
-            pending[held + 1] = *second;
-            held + 2
+            pending[held..held + 2].copy_from_slice(&[*first, *second]);
         }
     }
+    held + batch.len()
 }

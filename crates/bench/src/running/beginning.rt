@@ -10,9 +10,7 @@ use racks::Rack;
 impl<R: Rack> Running<R> {
     // A bench on which nothing has happened yet.
     pub(crate) fn fresh(rack: R, end: u32) -> Running<R>
-        ensures { let rules = R.Rack.rules in
-            let rows = R.Rack.rows in
-            bench_of rules rows result ≡ record { setting = record { rules = rules; end = end }; state = started (rows rack) } }
+        ensures { bench_of result ≡ record { setting = record { rules = R.Rack.rules; end = end }; state = started (R.Rack.rows rack) } }
     {
         Running {
             rack,

@@ -1,7 +1,7 @@
 // Deliver: an item in transit goes to its destination, where it may undo events (a rollback).
 ghost use Rattle.std.specs.Prelude.{◌≡◌};
 ghost use Rattle.model.specs.Deliver.{deliver};
-ghost use Rattle.bench.specs.Benches.{bench_of, delivered_or};
+ghost use Rattle.bench.specs.Benches.{setting_of, state_of, delivered_or};
 
 use super::{MOST_BOARDS, Running, TRANSIT_PLACES};
 use model::Refusal;
@@ -10,16 +10,10 @@ use racks::Rack;
 impl<R: Rack> Running<R> {
     // Delivers the item in transit with this index, the oldest being 0, and answers how many events were undone.
     pub fn deliver(&mut self, index: usize) -> Result<usize, Refusal>
-        ensures does_what_the_rule_says { let before = bench_of R.Rack.rules R.Rack.rows self.old in
-            let after = bench_of R.Rack.rules R.Rack.rows self.new in
-            (after.state, delivered_or result) ≡ deliver before.state index }
-        ensures keeps_the_setting { let before = bench_of R.Rack.rules R.Rack.rows self.old in
-            let after = bench_of R.Rack.rules R.Rack.rows self.new in
-            after.setting ≡ before.setting }
+        ensures does_what_the_rule_says { (state_of self.new, delivered_or result) ≡ deliver (state_of self.old) index }
+        ensures keeps_the_setting { setting_of self.new ≡ setting_of self.old }
     {
-        let Some(item) = self.transit.get(index) else {
-            return Err(Refusal::NoItem);
-        };
+        let item = self.transit.get(index).ok_or(Refusal::NoItem)?;
         let board = item.message().destination;
         let place = usize::from(board);
         let plan = self.table.plan(place, &item);
@@ -36,6 +30,7 @@ impl<R: Rack> Running<R> {
         // its saver holds the words after every standing event, so it has those that stay
         let _ = self.rack.back(board, plan.stay);
         self.undone += plan.undone as u32;
+        // no `get_mut`: the proof has no name for what it lends out of the table
         if place < MOST_BOARDS {
             self.table.entries[place].arrive(&item);
         }

@@ -1,7 +1,7 @@
 // Outlook: the least message outstanding.
 ghost use Rattle.std.specs.Prelude.{◌≡◌};
 ghost use Rattle.model.specs.Outlook.{outlook};
-ghost use Rattle.bench.specs.Benches.{bench_of};
+ghost use Rattle.bench.specs.Benches.{state_of};
 
 use super::Running;
 use bus::Message;
@@ -10,7 +10,7 @@ use racks::Rack;
 impl<R: Rack> Running<R> {
     // The least message that is open, early or in transit, if there is any.
     pub fn outlook(&self) -> Option<Message>
-        ensures { result ≡ outlook (bench_of R.Rack.rules R.Rack.rows self.now).state }
+        ensures { result ≡ outlook (state_of self.now) }
     {
         self.table.outlook(self.transit.least())
     }

@@ -1,7 +1,7 @@
 // Offer: a stimulus joins transit.
 ghost use Rattle.std.specs.Prelude.{◌≡◌};
 ghost use Rattle.model.specs.Offer.{offer, line_time};
-ghost use Rattle.bench.specs.Benches.{bench_of, offered_or};
+ghost use Rattle.bench.specs.Benches.{setting_of, state_of, offered_or};
 
 use super::{Running, TRANSIT_PLACES};
 use addressing::Batch;
@@ -10,16 +10,13 @@ use model::Refusal;
 use racks::Rack;
 
 // How many offers a bench admits.
-const MOST_OFFERS: u32 = 65536;
+const MOST_OFFERS: u32 = 65_536;
 
 // The time of the last committed line, or 0.
-fn line_time(last: &Option<Message>) -> u32
-    ensures { result ≡ line_time last.now }
+fn line_time(last: Option<Message>) -> u32
+    ensures { result ≡ line_time last }
 {
-    match last {
-        Some(line) => line.time,
-        None => 0,
-    }
+    last.map_or(0, |line| line.time)
 }
 
 impl<R: Rack> Running<R> {
@@ -31,12 +28,8 @@ impl<R: Rack> Running<R> {
         kind: u8,
         payload: u32,
     ) -> Result<u32, Refusal>
-        ensures does_what_the_rule_says { let before = bench_of R.Rack.rules R.Rack.rows self.old in
-            let after = bench_of R.Rack.rules R.Rack.rows self.new in
-            (after.state, offered_or result) ≡ offer before.setting before.state time destination kind payload }
-        ensures keeps_the_setting { let before = bench_of R.Rack.rules R.Rack.rows self.old in
-            let after = bench_of R.Rack.rules R.Rack.rows self.new in
-            after.setting ≡ before.setting }
+        ensures does_what_the_rule_says { (state_of self.new, offered_or result) ≡ offer (setting_of self.old) (state_of self.old) time destination kind payload }
+        ensures keeps_the_setting { setting_of self.new ≡ setting_of self.old }
     {
         if destination >= R::boards() {
             return Err(Refusal::NoBoard);
@@ -44,7 +37,7 @@ impl<R: Rack> Running<R> {
         if time > self.end {
             return Err(Refusal::PastEnd);
         }
-        if time < line_time(&self.last) {
+        if time < line_time(self.last) {
             return Err(Refusal::BeforeLastLine);
         }
         if self.offers >= MOST_OFFERS {

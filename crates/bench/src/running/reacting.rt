@@ -2,37 +2,28 @@
 ghost use Rattle.std.specs.Prelude.{◌≡◌};
 ghost use Rattle.model.specs.Law.{Reached};
 ghost use Rattle.model.specs.Run.{run};
-ghost use Rattle.bench.specs.Benches.{bench_of, ran_or};
+ghost use Rattle.bench.specs.Benches.{setting_of, state_of, ran_or};
 
-use super::Running;
+use super::{MOST_RUNS, Running, TRANSIT_PLACES};
 use addressing::Origin;
 use model::Refusal;
 use racks::Rack;
 
-// How many runs a bench accepts.
-const MOST_RUNS: u32 = 1000000000;
-
 // How many items in transit leave places for the two messages that a reaction may send.
-const TRANSIT_WITH_TWO_FREE: usize = 126;
+const TRANSIT_WITH_TWO_FREE: usize = TRANSIT_PLACES - 2;
 
 impl<R: Rack> Running<R> {
     // Lets a board react, and answers how many messages it sent.
     pub fn run(&mut self, board: u8) -> Result<usize, Refusal>
-        ensures does_what_the_rule_says { let before = bench_of R.Rack.rules R.Rack.rows self.old in
-            let after = bench_of R.Rack.rules R.Rack.rows self.new in
-            (Reached before.setting before.state → (after.state, ran_or result) ≡ run before.setting before.state board) }
-        ensures keeps_the_setting { let before = bench_of R.Rack.rules R.Rack.rows self.old in
-            let after = bench_of R.Rack.rules R.Rack.rows self.new in
-            after.setting ≡ before.setting }
+        ensures does_what_the_rule_says { (Reached (setting_of self.old) (state_of self.old) → (state_of self.new, ran_or result) ≡ run (setting_of self.old) (state_of self.old) board) }
+        ensures keeps_the_setting { setting_of self.new ≡ setting_of self.old }
     {
         let boards = R::boards();
         if board >= boards {
             return Err(Refusal::NoBoard);
         }
         let place = usize::from(board);
-        let Some(message) = self.table.next(place) else {
-            return Err(Refusal::NothingOpen);
-        };
+        let message = self.table.next(place).ok_or(Refusal::NothingOpen)?;
         if self.runs >= MOST_RUNS {
             return Err(Refusal::RunsSpent);
         }

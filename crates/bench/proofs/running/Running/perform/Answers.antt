@@ -2,25 +2,19 @@
 use Rattle.std.proofs.Common.{ℕ, ◌≤◌, length, sym, ap, ◌∙◌, arith}
 use Rattle.std.proofs.lemmas.List.{length-take-le}
 use Rattle.model.specs.Commit.{commit}
-use Rattle.bench.specs.Benches.{bench_of}
+use Rattle.bench.specs.Benches.{setting_of, state_of}
 use Rattle.bench.specs.Logs.{put_into, perform_into}
 use Rattle.bench.proofs.Logs.{commit_in_part}
 use Rattle.bench.proofs.running.Running.perform.Goals as goal
 
-pub returns-in-Commit : goal.returns-in-Commit
-returns-in-Commit g c =
-    let rules = g.R.Rack.rules in
-    let rows = g.R.Rack.rows in
-    let before = bench_of rules rows c.args.self.now in
-    let s = before.state in
+pub returns-in-Commit-clause-does_what_the_rule_says : goal.returns-in-Commit-clause-does_what_the_rule_says
+returns-in-Commit-clause-does_what_the_rule_says g c =
+    let s = state_of c.args.self.now in
     let log = c.args.log.now in
     let m = c.min-fitting.result in
     let ml : m ≤ length log = omega (arith, c.min-fitting.ensures) in
-    record {
-      does_what_the_rule_says = λ reached.
-          commit_in_part s (bench_of rules rows c.commit.new.self).state c.commit.result m log c.commit.new.log ml
-          (omega (arith, c.commit.ensures.writes_within_the_log, length-take-le m log ml)) (c.commit.ensures.does_what_the_rule_says reached)
-          ∙ ap (λ (k : ℕ). put_into log (commit s k)) c.min-fitting.ensures
-          ∙ ap (perform_into log before.setting s) (sym c.in-Commit.is);
-      keeps_the_setting = c.commit.ensures.keeps_the_setting;
-    }
+    λ reached.
+    commit_in_part s (state_of c.commit.new.self) c.commit.result m log c.commit.new.log ml
+    (omega (arith, c.commit.ensures.writes_within_the_log, length-take-le m log ml)) (c.commit.ensures.does_what_the_rule_says reached)
+    ∙ ap (λ (k : ℕ). put_into log (commit s k)) c.min-fitting.ensures
+    ∙ ap (perform_into log (setting_of c.args.self.now) s) (sym c.in-Commit.is)
