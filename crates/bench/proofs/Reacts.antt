@@ -1,6 +1,6 @@
 -- A run that is accepted is the rule's, and a reached bench's saver never refuses one.
-use Rattle.std.proofs.Common.{◌≡◌, ℕ, zero, suc, ◌-◌, ◌<◌, ◌≤◌, Bool, true, false, cond, ltb, List, [], ◌∷◌, ◌++◌, map, length, get_or, take, drop, set, Some, Ok, Err, Result, sym, refl, ap, ◌∙◌, arith}
-use Rattle.std.proofs.lemmas.List.{length-take, get_or-take}
+use Rattle.std.proofs.Common.{◌≡◌, ℕ, zero, suc, ◌-◌, ◌<◌, ◌≤◌, Bool, true, false, cond, ltb, List, [], ◌∷◌, ◌++◌, map, length, get_or, set, Some, Ok, Err, Result, sym, refl, ap, ◌∙◌, arith}
+use Rattle.std.proofs.lemmas.List.{get_or-take}
 use Rattle.std.proofs.lemmas.Bool.{lt-ltb, lt-leb, le-ltb}
 use Rattle.bus.specs.declared.Message.{Message}
 use Rattle.bus.specs.Reactions.{Sends, Rule, Reaction, unmoved, listed}
@@ -19,25 +19,13 @@ use Rattle.model.specs.Run.{run, run_first, run_open, stood}
 use Rattle.model.specs.Law.{Reached}
 use Rattle.model.proofs.Reach.{reached_level}
 use Rattle.queues.specs.declared.board.BoardQueues.{BoardQueues}
-use Rattle.queues.specs.Entries.{events, outputs_of, queues_of, first_message, stood_on, first_stands}
+use Rattle.queues.proofs.Memories.{room_is}
+use Rattle.queues.specs.Entries.{queues_of, first_message, stood_on, first_stands}
 
 -- ---- the saver of a reached bench has room for an open message
 
-events_short : (ms : List Message) (ns : List ℕ) (out : List Message) → length (events ms ns out) ≤ length ms
-events_short [] ns out = omega arith
-events_short (m ∷ ms) [] out = omega arith
-events_short (m ∷ ms) (n ∷ ns) out = omega (arith, events_short ms ns (drop n out))
-
 room_within : (b : BoardQueues) → room (queues_of b) ≤ 32
-room_within b = omega (
-  arith,
-  events_short (take b.standing b.messages) (take b.standing b.sends) (outputs_of b),
-  length-take b.standing b.messages,
-  length-take (b.count - b.standing) (drop b.standing b.messages),
-  length-take b.early_count b.early,
-  b.fits,
-  b.stands,
-)
+room_within b = omega (arith, room_is b, b.fits)
 
 pub rooms_within : (bs : List BoardQueues) (k : ℕ) → room (get_or (map queues_of bs) k no_queues) ≤ 32
 rooms_within [] k = omega arith

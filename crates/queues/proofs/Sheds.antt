@@ -1,9 +1,9 @@
 -- What a commit leaves of a board's queues.
-use Rattle.std.proofs.Common.{◌≡◌, ℕ, zero, suc, ◌+◌, ◌-◌, ◌<◌, ◌≤◌, List, [], ◌∷◌, ◌++◌, map, length, get_or, take, drop, sym, refl, ap, ◌∙◌, append-nil, arith}
+use Rattle.std.proofs.Common.{◌≡◌, ℕ, zero, suc, ◌+◌, ◌<◌, ◌≤◌, List, [], ◌∷◌, ◌++◌, length, get_or, take, drop, sym, ap, ◌∙◌, append-nil, arith}
 use Rattle.std.proofs.lemmas.List.{length-take-le, drop-map}
 use Rattle.bus.specs.declared.Message.{Message}
 use Rattle.bus.specs.declared.Sent.{Sent}
-use Rattle.model.specs.State.{Event, Queues, sends_of}
+use Rattle.model.specs.State.{Queues}
 use Rattle.model.specs.Commit.{shed}
 use Rattle.queues.specs.Sums.{sum}
 use Rattle.queues.specs.Memory.{messages_of}

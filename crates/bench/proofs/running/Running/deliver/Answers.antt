@@ -1,6 +1,7 @@
 -- A delivery that passes all tests is the rule's, and the counts stay in bounds.
-use Rattle.std.proofs.Common.{◌≡◌, ◌+◌, ◌*◌, ◌≤◌, false, List, map, length, set, sym, ap, ◌∙◌, arith, length-take}
+use Rattle.std.proofs.Common.{◌≡◌, ◌+◌, ◌*◌, ◌≤◌, false, List, map, length, set, sym, ap, ◌∙◌, arith}
 use Rattle.std.proofs.lemmas.List.{length-set, length-map, map-set, set_past, get_or_past}
+use Rattle.rows.proofs.Within.{held_within}
 use Rattle.model.specs.State.{Queues, no_queues, issued}
 use Rattle.model.specs.Deliver.{arrive, deliver}
 use Rattle.queues.specs.declared.plan.Plan.{Plan}
@@ -22,7 +23,7 @@ pub overflow_add-len : goal.overflow_add-len
 overflow_add-len g c =
     let b = c.args.self.now in
     let p = c.from-place.result in
-    omega (arith, ap (λ (x : Plan). x.recalled) c.plan-plan.ensures, recalled_small c.in_ok-item.item (board_in b.table p), b.numbered p, b.bounded, c.len.ensures, b.transit.fits, length-take b.transit.count b.transit.items)
+    omega (arith, ap (λ (x : Plan). x.recalled) c.plan-plan.ensures, recalled_small c.in_ok-item.item (board_in b.table p), b.numbered p, b.bounded, c.len.ensures, held_within b.transit.items)
 
 -- all that were undone ever are no more than the runs
 undone_few : (g : given.Over) (c : After-back g) → c.args.self.now.undone + c.plan-plan.result.undone ≤ c.args.self.now.runs

@@ -1,5 +1,5 @@
 -- The counts are the room that is taken.
-use Rattle.std.proofs.Common.{leb, sym, ap, ◌∙◌, arith}
+use Rattle.std.proofs.Common.{leb, ap, arith}
 use Rattle.queues.proofs.Memories.{room_is}
 use Rattle.queues.proofs.board.BoardQueues.is_full.Goals as goal
 

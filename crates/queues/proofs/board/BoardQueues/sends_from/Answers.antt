@@ -1,8 +1,7 @@
 -- What is behind the first events' sends in the out-row.
-use Rattle.std.proofs.Common.{◌≡◌, ◌-◌, ◌≤◌, length, take, drop, ap, ◌∙◌, arith, length-drop}
+use Rattle.std.proofs.Common.{◌-◌, ◌≤◌, length, drop, ap, ◌∙◌, arith, length-drop}
 use Rattle.std.proofs.lemmas.List.{take_all}
 use Rattle.rows.specs.Held.{held}
-use Rattle.queues.specs.Entries.{queues_of}
 use Rattle.queues.specs.Memory.{messages_of}
 use Rattle.queues.proofs.Memories.{sends_kept, sum_take_le}
 use Rattle.queues.proofs.Events.{kept_within}

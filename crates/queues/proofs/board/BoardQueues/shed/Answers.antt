@@ -1,5 +1,5 @@
 -- The first event goes, and what it sent.
-use Rattle.std.proofs.Common.{◌≡◌, ℕ, ◌+◌, ◌<◌, ◌≤◌, List, [], ◌∷◌, length, get_or, drop, refl, sym, ap, ◌∙◌, arith, rules, length-drop}
+use Rattle.std.proofs.Common.{◌≡◌, ℕ, ◌+◌, ◌<◌, List, [], ◌∷◌, length, get_or, drop, refl, ap, ◌∙◌, arith, rules, length-drop}
 use Rattle.rows.specs.Held.{held}
 use Rattle.queues.specs.Sums.{sum}
 use Rattle.queues.proofs.Memories.{tally, issued_is}

@@ -1,6 +1,5 @@
 -- The in-row up to the standing events.
 use Rattle.std.proofs.Common.{take, sym, ap, ◌∙◌}
-use Rattle.rows.specs.Held.{held}
 use Rattle.queues.proofs.Memories.{standing_messages}
 use Rattle.queues.proofs.board.BoardQueues.standing_ones.Goals as goal
 

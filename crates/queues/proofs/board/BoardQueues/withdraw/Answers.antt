@@ -1,5 +1,5 @@
 -- The first equal open message goes; what stands is left.
-use Rattle.std.proofs.Common.{◌≡◌, ◌+◌, ◌<◌, List, ◌++◌, length, take, drop, Some, refl, sym, ap, ◌∙◌, subst, arith, length-drop}
+use Rattle.std.proofs.Common.{◌≡◌, ◌+◌, List, ◌++◌, length, take, drop, Some, refl, sym, ap, ◌∙◌, subst, arith, length-drop}
 use Rattle.rows.specs.Held.{held}
 use Rattle.rows.specs.Rows.{first_of, without, without_one}
 use Rattle.rows.specs.Theorems.{FoundTold}
