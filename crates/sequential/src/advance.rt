@@ -44,6 +44,7 @@ pub(crate) fn advance<R: Rack>(
     };
     let place = usize::from(source);
     let batch = origin.messages(sent[place], &sends);
+    // at most two: no `try_from`, which could give up
     sent[place] += batch.len() as u32;
     batch
 }

@@ -33,6 +33,7 @@ impl<R: Rack> Running<R> {
         let place = front.board;
         self.table.entries[place].shed();
         // its saver holds the words after every standing event, so it has one to forget
+        // (the place is below eight: no `try_from`, which could give up)
         let _ = self.rack.forget(place as u8, 1);
         self.committed += 1;
         self.last = Some(front.message);

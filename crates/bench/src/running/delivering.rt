@@ -29,6 +29,7 @@ impl<R: Rack> Running<R> {
         self.transit.recall(recalled);
         // its saver holds the words after every standing event, so it has those that stay
         let _ = self.rack.back(board, plan.stay);
+        // no more than the runs: no `try_from`, which could give up
         self.undone += plan.undone as u32;
         // no `get_mut`: the proof has no name for what it lends out of the table
         if place < MOST_BOARDS {

@@ -34,6 +34,7 @@ impl<R: Rack> Running<R> {
             // on a bench that calls lead to, a saver has room for every open message, so this is never reached
             return Err(Refusal::NothingOpen);
         };
+        // at most two for each run: no `try_from`, which could give up
         let number = self.table.issued(place) as u32;
         let origin = Origin {
             boards,
