@@ -33,7 +33,7 @@ pub fn list(heap: Global, bytes: &[u8]) -> Result<String, NoMemory>
             add_calls(&mut text, schedule.calls.as_slice())?;
         }
         Err(ReadError::Faulty(fault)) => writeln!(text, "{fault}")?,
-        Err(ReadError::NoMemory) => return Err(NoMemory),
+        Err(ReadError::NoMemory(_)) => return Err(NoMemory),
     }
     Ok(text)
 }

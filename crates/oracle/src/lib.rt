@@ -26,7 +26,7 @@ pub fn reference_log(heap: Global, bytes: &[u8]) -> Result<String, NoMemory>
     match read(heap, bytes) {
         Ok(schedule) => add_run(heap, &mut text, schedule.end, schedule.calls.as_slice())?,
         Err(ReadError::Faulty(fault)) => writeln!(text, "{fault}")?,
-        Err(ReadError::NoMemory) => return Err(NoMemory),
+        Err(ReadError::NoMemory(_)) => return Err(NoMemory),
     }
     Ok(text)
 }

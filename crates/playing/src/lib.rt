@@ -38,7 +38,7 @@ pub fn play(heap: Global, bytes: &[u8]) -> Result<String, NoMemory>
     match read(heap, bytes) {
         Ok(schedule) => add_schedule(heap, &mut text, &schedule)?,
         Err(ReadError::Faulty(fault)) => writeln!(text, "{fault}")?,
-        Err(ReadError::NoMemory) => return Err(NoMemory),
+        Err(ReadError::NoMemory(_)) => return Err(NoMemory),
     }
     Ok(text)
 }

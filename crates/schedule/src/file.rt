@@ -1,12 +1,12 @@
 // The file layer: the header, and the calls up to the file's end.
 ghost use Rattle.std.specs.Prelude.{◌≡◌, ◌-◌, ◌^◌, ◌<◌, ◌≤◌, [], ◌∷◌, ◌++◌, length, Some, None, MatchResult};
-ghost use Rattle.schedule.specs.declared.file.ReadError.TheVariants.{Faulty};
+ghost use Rattle.schedule.specs.declared.file.ReadError.TheVariants.{Faulty, NoMemory};
 ghost use Rattle.schedule.specs.Layout.{most_bytes, encode};
 ghost use Rattle.schedule.specs.Faults.{placed, placed_result, in_file, header_fault, calls_fault, FaultsWhereItBreaksOff};
 ghost use Rattle.schedule.specs.Reading.{AnswersTheReading, ReadsTheLayout};
 
 use crate::call::{Call, CallFault, read_call};
-use std::alloc::Global;
+use std::alloc::{AllocError, AllocFailed, Global};
 
 const MOST_BYTES: usize = 60_000;
 
@@ -49,7 +49,7 @@ pub struct Fault {
 #[derive(Clone, Copy)]
 pub enum ReadError {
     Faulty(Fault),
-    NoMemory,
+    NoMemory(AllocError),
 }
 
 impl From<Fault> for ReadError {
@@ -57,6 +57,14 @@ impl From<Fault> for ReadError {
 
     fn from(e: Fault) -> ReadError {
         ReadError::Faulty(e)
+    }
+}
+
+impl<T: Drop> From<AllocFailed<T>> for ReadError {
+    ghost from_gives = { λ _ r. r ≡ NoMemory (record {}) };
+
+    fn from(e: AllocFailed<T>) -> ReadError {
+        ReadError::NoMemory(e.into())
     }
 }
 
@@ -142,9 +150,9 @@ pub fn read(heap: Global, bytes: &[u8]) -> Result<Schedule, ReadError>
     while let [letter, numbers @ ..] = rest {
         let offset = bytes.len() - rest.len();
         let (call, after) = placed_at(offset, read_call(*letter as char, numbers))?;
-        if calls.push(call).is_err() {
+        if let Err(error) = calls.push(call) {
             check_calls(bytes, after)?;
-            return Err(ReadError::NoMemory);
+            return Err(error.into());
         }
         rest = after;
     }

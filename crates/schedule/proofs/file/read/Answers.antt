@@ -1,6 +1,5 @@
 -- One call more, want of memory, and the file's end.
-use Rattle.std.proofs.Common.{◌≡◌, ◌≤◌, not, length, sym, ap, ◌∙◌, subst, rules}
-use Rattle.std.proofs.ResultArms.{chosen}
+use Rattle.std.proofs.Common.{◌≡◌, ◌≤◌, length, sym, ◌∙◌, subst, rules}
 use Rattle.std.proofs.lemmas.Result.{err_from_is_err_and}
 use Rattle.schedule.proofs.Fronts.{opens_1}
 use Rattle.schedule.proofs.Laws.{Sofar, one_more, done, unplaced, wants}
@@ -11,7 +10,7 @@ pub loop-rest-preserved : goal.loop-rest-preserved
 loop-rest-preserved c =
     let read = rw (unplaced _ _ c.read_call.result c.in_ok-call.ensures) at c.read_call.ensures in
     let some : 1 ≤ length c.loop-rest.rest.now = search rules in
-    let pushed = chosen _ _ _ _ c.push.ensures.items (c.is_err.ensures.negation ∙ ap not c.if-is_err.false) in
+    let pushed = c.in_default-push.ensures.items in
     subst (λ l. Sofar c.args.bytes.now c.in_ok-end.end l c.in_ok-call.after.now) (sym pushed)
     (one_more _ _ _ _ _ _ c.loop-rest.invariant (opens_1 c.loop-rest.rest.now some ∙ read.0) read.1)
 
@@ -42,12 +41,12 @@ returns-in_err-check_calls c =
       faults_where_it_breaks_off = faults_where_it_breaks_off c.args.bytes.now c.type_inv.bytes;
     }
 
-pub returns-then-is_err : goal.returns-then-is_err
-returns-then-is_err c =
+pub returns-in-Err : goal.returns-in-Err
+returns-in-Err c =
     let read = rw (unplaced _ _ c.read_call.result c.in_ok-call.ensures) at c.read_call.ensures in
     let some : 1 ≤ length c.loop-rest.rest.now = search rules in
     record {
-      answers_the_reading = wants _ _ _ _ _ _ c.loop-rest.invariant (opens_1 c.loop-rest.rest.now some ∙ read.0) read.1 c.in_ok-check_calls.ensures;
+      answers_the_reading = rw c.into.ensures (wants _ _ _ _ _ _ c.loop-rest.invariant (opens_1 c.loop-rest.rest.now some ∙ read.0) read.1 c.in_ok-check_calls.ensures);
       reads_the_layout = reads_the_layout c.args.bytes.now c.type_inv.bytes;
       faults_where_it_breaks_off = faults_where_it_breaks_off c.args.bytes.now c.type_inv.bytes;
     }
