@@ -43,9 +43,6 @@ written_is_read bytes end calls h =
     ∙ ap (λ b. Ok (number (take 4 (drop 2 b)), calls_of 0 (drop 6 b))) h.laid
     ∙ ap₂ (λ e cs. Ok (e, cs)) (number_four end) (calls_back calls)
 
-pub fault_is_read : (bytes : List ℕ) (fault : Fault) → fault_of bytes ≡ Some fault → reading bytes ≡ Err fault
-fault_is_read bytes fault e = ap (good bytes) e
-
 -- what is read was written
 
 bytes_drop : (s : List ℕ) (k : ℕ) → Bytes s → Bytes (drop k s)

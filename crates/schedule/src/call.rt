@@ -48,8 +48,8 @@ impl From<CutShort> for CallFault {
 }
 
 // The numbers of an offer.
-fn read_offer(numbers: &[u8]) -> Result<(Call, &[u8]), CutShort>
-    ensures { MatchResult result (λ x. (offer_letter ∷ numbers.now ≡ bytes_of x.0 ++ x.1.now) × Within x.0) (λ _. length numbers.now < 10) }
+fn read_offer(numbers: &[u8]) -> Result<(Call, &[u8]), CallFault>
+    ensures { MatchResult result (λ x. (offer_letter ∷ numbers.now ≡ bytes_of x.0 ++ x.1.now) × Within x.0) (λ e. call_fault offer_letter numbers.now ≡ Some e) }
 {
     let (time, rest) = read_number(numbers)?;
     let (destination, rest) = read_number(rest)?;
@@ -69,7 +69,7 @@ pub fn read_call(letter: char, numbers: &[u8]) -> Result<(Call, &[u8]), CallFaul
     ensures { MatchResult result (λ x. (letter ∷ numbers.now ≡ bytes_of x.0 ++ x.1.now) × Within x.0) (λ e. call_fault letter numbers.now ≡ Some e) }
 {
     match letter {
-        'o' => Ok(read_offer(numbers)?),
+        'o' => read_offer(numbers),
         'd' => {
             let (index, rest) = read_number(numbers)?;
             Ok((Call::Deliver { index }, rest))
