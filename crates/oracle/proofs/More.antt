@@ -76,16 +76,15 @@ stimuli_fit end sofar calls i few is = omega (arith, ap length is, stimuli_short
 
 -- ---- the parts of the text, one behind the other
 
-pub run_printed : (end : ℕ) (calls : List Call) (stimuli log : List Message) (lines pending : ℕ) (before first second third : List ℕ) →
+pub run_printed : (end : ℕ) (calls : List Call) (stimuli log : List Message) (lines pending : ℕ) (before first second : List ℕ) →
     stimuli ≡ stimuli_from end 0 calls → log ≡ (machine_on end stimuli).log → pending ≡ length (machine_on end stimuli).pending → lines ≡ length log →
-    first ≡ before ++ refusals_from end 0 calls → second ≡ first ++ flat_map log_line log → third ≡ second ++ last_line lines pending →
-    third ≡ before ++ run_text end calls
-run_printed end calls stimuli log lines pending before first second third are wrote left counted one two three =
+    first ≡ before ++ refusals_from end 0 calls → second ≡ first ++ flat_map log_line log →
+    second ++ last_line lines pending ≡ before ++ run_text end calls
+run_printed end calls stimuli log lines pending before first second are wrote left counted one two =
     let refused = refusals_from end 0 calls in
     let lines_of = flat_map log_line log in
     let last = last_line lines pending in
-    three
-    ∙ ap (λ l. l ++ last) (two ∙ ap (λ l. l ++ lines_of) one)
+    ap (λ l. l ++ last) (two ∙ ap (λ l. l ++ lines_of) one)
     ∙ append_assoc (before ++ refused) lines_of last
     ∙ append_assoc before refused (lines_of ++ last)
     ∙ ap (λ l. before ++ (refused ++ l)) (

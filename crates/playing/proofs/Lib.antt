@@ -1,5 +1,4 @@
 -- Lemmas of playing.
-mod Calls
 mod Pieces
 mod Told
 mod Driven
