@@ -1,5 +1,4 @@
 -- Lemmas of playing.
-mod Pieces
 mod Told
 mod Driven
 mod FareRuns

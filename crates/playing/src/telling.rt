@@ -20,23 +20,22 @@ pub(crate) fn add_outcome(
     ensures { OnOk result (string_bytes text.new ≡ string_bytes text.old ++ outcome_text index outcome.now lines.now) }
 {
     match *outcome {
-        Outcome::Offered(_) | Outcome::Delivered(0) | Outcome::Ran(_) => {}
+        Outcome::Offered(_) | Outcome::Delivered(0) | Outcome::Ran(_) => Ok(()),
         Outcome::Delivered(undone) => {
             text.push_str("U ")?;
-            end_with(text, &[undone as u64])?;
+            end_with(text, &[undone as u64])
         }
         Outcome::Looked(Some(message)) => {
             text.push_str("G ")?;
-            end_with_fields(text, &message)?;
+            end_with_fields(text, &message)
         }
-        Outcome::Looked(None) => text.push_str("G -\n")?,
-        Outcome::Committed(_) => add_lines(text, lines)?,
+        Outcome::Looked(None) => text.push_str("G -\n"),
+        Outcome::Committed(_) => add_lines(text, lines),
         Outcome::Refused(refusal) => {
             text.push_str("R ")?;
-            end_with(text, &[index as u64, u64::from(refusal.number())])?;
+            end_with(text, &[index as u64, u64::from(refusal.number())])
         }
     }
-    Ok(())
 }
 
 // Adds what is told of calls in their order; their lines stand one behind the other in the log.
