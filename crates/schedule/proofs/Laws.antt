@@ -1,6 +1,6 @@
 -- What the layout's writer and the rules of the faults have to do with each other.
-use Rattle.std.proofs.Common.{◌≡◌, ℕ, ◌+◌, ◌-◌, ◌^◌, ◌<◌, ◌≤◌, cond, ltb, List, [], ◌∷◌, ◌++◌, length, Some, None, Option, unwrap_or, sym, refl, ap, ◌∙◌, subst, append-nil, add-zero, arith}
-use Rattle.std.specs.List.{flat_map, AllByRecursion}
+use Rattle.std.proofs.Common.{◌≡◌, ℕ, ◌+◌, ◌-◌, ◌^◌, ◌<◌, ◌≤◌, cond, ltb, List, [], ◌∷◌, ◌++◌, length, Some, None, Option, unwrap_or, sym, refl, ap, ◌∙◌, subst, append_assoc, append-nil, add-zero, arith, length-append}
+use Rattle.std.specs.List.{flat_map, All}
 use Rattle.std.proofs.lemmas.Bool.{le-ltb, cond-false}
 use Rattle.schedule.specs.declared.call.CallFault.{CallFault}
 use Rattle.schedule.specs.declared.call.CallFault.TheVariants.{Number}
@@ -37,9 +37,12 @@ call_passes (Run board) offset rest = opens 114 (board ∷ []) rest offset (enou
 call_passes Outlook offset rest = opens 103 [] rest offset (enough 0 rest (omega arith)) refl
 call_passes (Commit most) offset rest = opens 99 (two most) rest offset (enough 2 (two most ++ rest) (omega arith)) refl
 
-all_pass : (calls : List Call) (offset : ℕ) → calls_fault offset 0 (flat_map bytes_of calls) ≡ None
-all_pass [] offset = refl
-all_pass (call ∷ calls) offset = call_passes call offset (flat_map bytes_of calls) ∙ all_pass calls (offset + length (bytes_of call))
+pub all_passed : (calls : List Call) (offset : ℕ) (rest : List ℕ) → calls_fault offset 0 (flat_map bytes_of calls ++ rest) ≡ calls_fault (offset + length (flat_map bytes_of calls)) 0 rest
+all_passed [] offset rest = ap (λ n. calls_fault n 0 rest) (sym (add-zero offset))
+all_passed (call ∷ calls) offset rest =
+    let long = length-append (bytes_of call) (flat_map bytes_of calls) in
+    let same : offset + length (bytes_of call) + length (flat_map bytes_of calls) ≡ offset + length (flat_map bytes_of (call ∷ calls)) = omega arith in
+    ap (λ l. calls_fault offset 0 l) (append_assoc (bytes_of call) (flat_map bytes_of calls) rest) ∙ call_passes call offset (flat_map bytes_of calls ++ rest) ∙ all_passed calls (offset + length (bytes_of call)) rest ∙ ap (λ n. calls_fault n 0 rest) same
 
 -- the header as the layout has it is no fault
 header_passes : (end : ℕ) (rest : List ℕ) → length (encode end [] ++ rest) ≤ 60000 → header_fault (encode end [] ++ rest) ≡ None
@@ -55,14 +58,15 @@ body_fault end rest small = ap after (header_passes end rest small)
 -- a file that follows the layout has no fault
 pub follows_passes : (bytes : List ℕ) (end : ℕ) (calls : List Call) → Follows bytes end calls → fault_of bytes ≡ None
 follows_passes bytes end calls h =
-    ap fault_of h.laid ∙ body_fault end (flat_map bytes_of calls) (subst (λ b. length b ≤ 60000) h.laid h.small) ∙ all_pass calls 6
+    ap fault_of h.laid ∙ body_fault end (flat_map bytes_of calls) (subst (λ b. length b ≤ 60000) h.laid h.small)
+    ∙ ap (calls_fault 6 0) (sym (append-nil (flat_map bytes_of calls))) ∙ all_passed calls 6 []
 
 -- the calls are what the front of the file holds, and rest is what is left
 pub record Sofar (bytes : List ℕ) (end : ℕ) (calls : List Call) (rest : List ℕ) : Type 0 where
   pub laid : bytes ≡ encode end calls ++ rest
   pub small : length bytes ≤ 60000
   pub end_within : end < 2 ^ 32
-  pub within : AllByRecursion Within calls
+  pub within : All Within calls
   pub fault : fault_of bytes ≡ calls_fault (length bytes - length rest) 0 rest
   pub left : length rest ≤ length bytes
 

@@ -130,7 +130,7 @@ fn next_call<'a>(bytes: &[u8], rest: &'a [u8]) -> Result<Option<(Call, &'a [u8])
         return Ok(None);
     };
     let offset = bytes.len() - rest.len();
-    placed_at(offset, read_call(*letter as char, numbers)).map(Some)
+    placed_at(offset, read_call(char::from(*letter), numbers)).map(Some)
 }
 
 // Whether the calls in `tail`, the end of the file, are sound: if not, the first fault.
