@@ -22,11 +22,11 @@ pub fn read_file<R: Read + Drop>(heap: Global, input: R) -> io::Result<Vec<u8>>
 }
 
 // Reads a file, and writes the text that is made of it.
-pub fn write_text_of<
+pub fn write_text_of<R, W, F>(heap: Global, input: R, output: &mut W, make: F) -> anyhow::Result<()>
+where
     R: Read + Drop,
     W: Write,
     F: FnOnce(Global, &[u8]) -> Result<String, AllocError>,
->(heap: Global, input: R, output: &mut W, make: F) -> anyhow::Result<()>
     requires { F.IsAlwaysCallable make }
     ensures { OnOk result ((file : _) × (text : _) × F.post make heap file (Ok text)
         × IfSome (R.remaining input) (λ bytes. file.now ≡ take 60001 bytes)

@@ -59,7 +59,7 @@ fn stimulus_of(end: u32, number: u32, call: &Call) -> Option<Message>
     }
 }
 
-// The stimuli of a run, in the order of the calls, numbered from 0 on.
+// The stimuli of a run, in the order of the calls, numbered from 0 on. A number counts the stimuli before it, so that this is a loop.
 pub(crate) fn stimuli_of(heap: Global, end: u32, calls: &[Call]) -> Result<Vec<Message>, AllocError>
     requires { length calls.now ≤ most_bytes }
     ensures { IfOk result (λ v. v.items ≡ stimuli_from end 0 calls.now) }

@@ -8,7 +8,7 @@ use std::alloc::{AllocError, Global};
 // A commit gets at most so many lines, whatever the schedule asks for.
 const MOST_LINES: u16 = 256;
 
-// What a schedule's call asks of the bench.
+// What a schedule's call asks of the bench. This is no `From`, since both types are of other crates.
 pub(crate) fn bench_call(call: schedule::Call) -> Call
     ensures { result ≡ asked call }
 {
