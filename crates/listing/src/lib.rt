@@ -5,14 +5,13 @@ ghost use Rattle.std.specs.Prelude.{◌≡◌, ◌++◌, IfOk, string_bytes, OnO
 ghost use Rattle.std.specs.List.{flat_map};
 ghost use Rattle.listing.specs.Listed.{call_line, listed};
 
-use report::NoMemory;
 use schedule::{Call, ReadError, read};
-use std::alloc::Global;
+use std::alloc::{AllocError, Global};
 
 #[cfg(test)]
 mod tests;
 
-fn add_calls(text: &mut String, calls: &[Call]) -> Result<(), NoMemory>
+fn add_calls(text: &mut String, calls: &[Call]) -> Result<(), AllocError>
     ensures { OnOk result (string_bytes text.new ≡ string_bytes text.old ++ flat_map call_line calls.now) }
 {
     for call in calls {
@@ -22,18 +21,17 @@ fn add_calls(text: &mut String, calls: &[Call]) -> Result<(), NoMemory>
 }
 
 // The whole text that is printed of a file.
-pub fn list(heap: Global, bytes: &[u8]) -> Result<String, NoMemory>
+pub fn list(heap: Global, bytes: &[u8]) -> Result<String, AllocError>
     ensures { IfOk result (λ t. string_bytes t ≡ listed bytes.now) }
 {
     let mut text = String::new(heap);
     match read(heap, bytes) {
         Ok(schedule) => {
-            let end = schedule.end;
-            writeln!(text, "end {end}")?;
-            add_calls(&mut text, schedule.calls.as_slice())?;
+            writeln!(text, "end {}", schedule.end)?;
+            add_calls(&mut text, &schedule.calls)?;
         }
         Err(ReadError::Faulty(fault)) => writeln!(text, "{fault}")?,
-        Err(ReadError::NoMemory) => return Err(NoMemory),
+        Err(ReadError::NoMemory(error)) => return Err(error),
     }
     Ok(text)
 }

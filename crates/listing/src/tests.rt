@@ -1,14 +1,12 @@
 // Files with each fault, the shortest and the longest file, and calls cut short, by what is printed of them.
 use crate::list;
-use report::NoMemory;
+use std::process::Abort;
 use std::test::Fail;
 
-fn expect(rt: &impl AllocGlobal, bytes: &[u8], printed: &str) -> Result<(), Fail> {
-    match list(rt.alloc(), bytes) {
-        Ok(text) if text.as_str() == printed => Ok(()),
-        Ok(_) => Err(Fail::new("another text")),
-        Err(NoMemory) => Err(Fail::new("no memory")),
-    }
+fn expect(rt: &(impl Abort + AllocGlobal), bytes: &[u8], printed: &str) -> Result<(), Fail> {
+    let text = list(rt.alloc(), bytes)?;
+    assert_eq!(rt; text.as_str(), printed);
+    Ok(())
 }
 
 #[test]
@@ -43,9 +41,9 @@ fn longest_file(rt: HostRuntime) -> Result<(), Fail> {
         bytes.push(b'g')?;
         printed.push_str("g\n")?;
     }
-    expect(&rt, bytes.as_slice(), printed.as_str())?;
+    expect(&rt, &bytes, &printed)?;
     bytes.push(b'g')?;
-    expect(&rt, bytes.as_slice(), "F 1 60000 7\n")
+    expect(&rt, &bytes, "F 1 60000 7\n")
 }
 
 // No file has a longer listing than one of runs alone.
@@ -58,5 +56,5 @@ fn longest_listing(rt: HostRuntime) -> Result<(), Fail> {
         bytes.push(255)?;
         printed.push_str("r 255\n")?;
     }
-    expect(&rt, bytes.as_slice(), printed.as_str())
+    expect(&rt, &bytes, &printed)
 }

@@ -1,15 +1,12 @@
 -- One call more.
 use Rattle.std.proofs.Common.{◌≡◌, ℕ, ◌+◌, ◌<◌, ◌≤◌, List, [], ◌∷◌, ◌++◌, length, get_or, take, Some, None, Option, sym, ap, ◌∙◌, append_assoc, append-nil, arith}
 use Rattle.std.specs.Option.{option_to_list}
-use Rattle.std.specs.List.{flat_map}
 use Rattle.std.proofs.lemmas.List.{take_more, length-append, length-take, length-take-le}
 use Rattle.bus.specs.declared.Message.{Message}
 use Rattle.schedule.specs.declared.call.Call.{Call}
 use Rattle.oracle.specs.declared.offers.Refusal.{Refusal}
 use Rattle.oracle.specs.Offers.{refusal_of, stimulus_of, stimuli_from}
-use Rattle.oracle.specs.Machines.{machine_on}
-use Rattle.report.specs.Lines.{log_line}
-use Rattle.oracle.specs.Texts.{refusal_line, refusals_from, last_line, machine_text, run_text}
+use Rattle.oracle.specs.Texts.{refusal_line, refusals_from}
 
 -- ---- a refused offer
 
@@ -73,24 +70,3 @@ stimuli_short end n (x ∷ xs) =
 
 pub stimuli_fit : (end : ℕ) (sofar : List Message) (calls : List Call) (i : ℕ) → length calls ≤ 60000 → sofar ≡ stimuli_from end 0 (take i calls) → length sofar ≤ 60000
 stimuli_fit end sofar calls i few is = omega (arith, ap length is, stimuli_short end 0 (take i calls), length-take i calls)
-
--- ---- the parts of the text, one behind the other
-
-pub run_printed : (end : ℕ) (calls : List Call) (stimuli log : List Message) (lines pending : ℕ) (before first second third : List ℕ) →
-    stimuli ≡ stimuli_from end 0 calls → log ≡ (machine_on end stimuli).log → pending ≡ length (machine_on end stimuli).pending → lines ≡ length log →
-    first ≡ before ++ refusals_from end 0 calls → second ≡ first ++ flat_map log_line log → third ≡ second ++ last_line lines pending →
-    third ≡ before ++ run_text end calls
-run_printed end calls stimuli log lines pending before first second third are wrote left counted one two three =
-    let refused = refusals_from end 0 calls in
-    let lines_of = flat_map log_line log in
-    let last = last_line lines pending in
-    three
-    ∙ ap (λ l. l ++ last) (two ∙ ap (λ l. l ++ lines_of) one)
-    ∙ append_assoc (before ++ refused) lines_of last
-    ∙ append_assoc before refused (lines_of ++ last)
-    ∙ ap (λ l. before ++ (refused ++ l)) (
-    ap (λ n. lines_of ++ last_line n pending) counted
-    ∙ ap (λ l. flat_map log_line l ++ last_line (length l) pending) wrote
-    ∙ ap (λ n. flat_map log_line (machine_on end stimuli).log ++ last_line (length (machine_on end stimuli).log) n) left
-    ∙ ap (λ (s : List Message). machine_text (machine_on end s)) are
-    )

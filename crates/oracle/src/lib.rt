@@ -11,22 +11,22 @@ mod runs;
 mod tests;
 mod texts;
 
-use report::NoMemory;
 use schedule::{ReadError, read};
-use std::alloc::Global;
+use std::alloc::{AllocError, Global};
 use texts::add_run;
 
 // The whole text that is printed of a schedule file.
-pub fn reference_log(heap: Global, bytes: &[u8]) -> Result<String, NoMemory>
+#[tactic(auto, using(crate::proofs::Lawful::nothing_comes_after_the_end))]
+pub fn reference_log(heap: Global, bytes: &[u8]) -> Result<String, AllocError>
     ensures text_is_the_reference { IfOk result (λ t. string_bytes t ≡ reference_text bytes.now) }
     ensures log_is_lawful { LogIsLawful bytes.now }
     ensures nothing_comes_after_the_end { NothingComesAfterTheEnd bytes.now }
 {
     let mut text = String::new(heap);
     match read(heap, bytes) {
-        Ok(schedule) => add_run(heap, &mut text, schedule.end, schedule.calls.as_slice())?,
+        Ok(schedule) => add_run(heap, &mut text, schedule.end, &schedule.calls)?,
         Err(ReadError::Faulty(fault)) => writeln!(text, "{fault}")?,
-        Err(ReadError::NoMemory) => return Err(NoMemory),
+        Err(ReadError::NoMemory(error)) => return Err(error),
     }
     Ok(text)
 }

@@ -5,9 +5,8 @@ ghost use Rattle.oracle.specs.Offers.{refusal_of, stimulus_of, stimuli_from, ref
 
 use bus::{Message, OUTSIDE};
 use fare_rack::board_count;
-use report::NoMemory;
 use schedule::Call;
-use std::alloc::Global;
+use std::alloc::{AllocError, Global};
 
 // Why an offer is refused, by its number.
 #[derive(Clone, Copy)]
@@ -16,11 +15,11 @@ pub(crate) enum Refusal {
     PastEnd = 2,
 }
 
-impl Refusal {
-    pub(crate) fn number(self) -> u8
-        ensures { result ≡ refusal_number self }
-    {
-        self as u8
+impl From<Refusal> for u8 {
+    ghost from_gives = { λ refusal n. n ≡ refusal_number refusal };
+
+    fn from(refusal: Refusal) -> u8 {
+        refusal as u8
     }
 }
 
@@ -60,8 +59,8 @@ fn stimulus_of(end: u32, number: u32, call: &Call) -> Option<Message>
     }
 }
 
-// The stimuli of a run, in the order of the calls, numbered from 0 on.
-pub(crate) fn stimuli_of(heap: Global, end: u32, calls: &[Call]) -> Result<Vec<Message>, NoMemory>
+// The stimuli of a run, in the order of the calls, numbered from 0 on. A number counts the stimuli before it, so that this is a loop.
+pub(crate) fn stimuli_of(heap: Global, end: u32, calls: &[Call]) -> Result<Vec<Message>, AllocError>
     requires { length calls.now ≤ most_bytes }
     ensures { IfOk result (λ v. v.items ≡ stimuli_from end 0 calls.now) }
 {

@@ -4,9 +4,8 @@ ghost use Rattle.oracle.specs.Machines.{machine_on};
 
 use bus::{BLANK, Message, ZEROS};
 use fare_rack::fare_rack;
-use report::NoMemory;
 use sequential::run;
-use std::alloc::Global;
+use std::alloc::{AllocError, Global};
 
 // The most lines that a run writes.
 const MOST_LINES: usize = 65_536;
@@ -20,22 +19,15 @@ pub(crate) struct Ran {
 
 // Takes the stimuli, and what comes of them, one by one, until nothing is pending or the log is full.
 // A line takes one message and sends at most two, so that the stimuli and one place for each line are room enough.
-pub(crate) fn run_on(heap: Global, end: u32, stimuli: Vec<Message>) -> Result<Ran, NoMemory>
+pub(crate) fn run_on(heap: Global, end: u32, stimuli: Vec<Message>) -> Result<Ran, AllocError>
     ensures { IfOk result (λ ran. (ran.log.items ≡ (machine_on end (stimuli.items)).log) × (ran.pending ≡ length (machine_on end (stimuli.items)).pending)) }
 {
     let mut log = vec![in heap; BLANK; MOST_LINES]?;
     let count = stimuli.len();
     let mut pending = stimuli;
-    pending.extend_from_slice(log.as_slice())?;
+    pending.extend_from_slice(&log)?;
     let mut rack = fare_rack();
-    let outcome = run(
-        &mut rack,
-        end,
-        &[ZEROS; 8],
-        pending.as_mut_slice(),
-        count,
-        log.as_mut_slice(),
-    );
+    let outcome = run(&mut rack, end, &[ZEROS; 8], &mut pending, count, &mut log);
     log.truncate(outcome.steps);
     Ok(Ran {
         log,

@@ -1,17 +1,12 @@
 // What is printed of a few files: none but the end, the example's run, and refused offers.
 use crate::reference_log;
-use report::NoMemory;
 use std::process::Abort;
 use std::test::Fail;
 
 fn expect(rt: &(impl Abort + AllocGlobal), bytes: &[u8], printed: &str) -> Result<(), Fail> {
-    match reference_log(rt.alloc(), bytes) {
-        Ok(text) => {
-            assert!(rt; text.as_str() == printed);
-            Ok(())
-        },
-        Err(NoMemory) => Err(Fail::new("no memory")),
-    }
+    let text = reference_log(rt.alloc(), bytes)?;
+    assert_eq!(rt; text.as_str(), printed);
+    Ok(())
 }
 
 #[test]

@@ -5,17 +5,17 @@ ghost use Rattle.oracle.specs.Texts.{refusals_from, last_line, run_text};
 
 use crate::offers::{refusal_of, stimuli_of};
 use crate::runs::run_on;
-use report::{NoMemory, add_lines};
+use report::add_lines;
 use schedule::Call;
-use std::alloc::Global;
+use std::alloc::{AllocError, Global};
 
 // A line for each refused offer: its place among the calls, and the refusal's number.
-fn add_refusals(text: &mut String, end: u32, calls: &[Call]) -> Result<(), NoMemory>
+fn add_refusals(text: &mut String, end: u32, calls: &[Call]) -> Result<(), AllocError>
     ensures { OnOk result (string_bytes text.new ≡ string_bytes text.old ++ refusals_from end 0 calls.now) }
 {
     for (index, call) in calls.iter().enumerate() {
         if let Some(refusal) = refusal_of(end, call) {
-            let number = refusal.number();
+            let number = u8::from(refusal);
             writeln!(text, "R {index} {number}")?;
         }
     }
@@ -23,15 +23,14 @@ fn add_refusals(text: &mut String, end: u32, calls: &[Call]) -> Result<(), NoMem
 }
 
 // The last line: whether the run came to its end, where nothing is pending, and how many lines it wrote.
-fn add_last_line(text: &mut String, lines: usize, pending: usize) -> Result<(), NoMemory>
+fn add_last_line(text: &mut String, lines: usize, pending: usize) -> Result<(), AllocError>
     ensures { OnOk result (string_bytes text.new ≡ string_bytes text.old ++ last_line lines pending) }
 {
     if pending == 0 {
-        writeln!(text, "E {lines}")?;
+        writeln!(text, "E {lines}")
     } else {
-        writeln!(text, "S {lines}")?;
+        writeln!(text, "S {lines}")
     }
-    Ok(())
 }
 
 // All that is printed of a sound schedule.
@@ -40,14 +39,13 @@ pub(crate) fn add_run(
     text: &mut String,
     end: u32,
     calls: &[Call],
-) -> Result<(), NoMemory>
+) -> Result<(), AllocError>
     requires { length calls.now ≤ most_bytes }
     ensures { OnOk result (string_bytes text.new ≡ string_bytes text.old ++ run_text end calls.now) }
 {
     add_refusals(text, end, calls)?;
     let stimuli = stimuli_of(heap, end, calls)?;
     let ran = run_on(heap, end, stimuli)?;
-    add_lines(text, ran.log.as_slice())?;
-    add_last_line(text, ran.log.len(), ran.pending)?;
-    Ok(())
+    add_lines(text, &ran.log)?;
+    add_last_line(text, ran.log.len(), ran.pending)
 }

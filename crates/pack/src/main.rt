@@ -1,7 +1,7 @@
 // Packs the schedule that is listed on standard input: its bytes go to standard output, or what is wrong to standard error.
 #![tactic(auto)]
 
-use anyhow::anyhow;
+use anyhow::bail;
 use packing::pack;
 use std::io::{Read, Write};
 
@@ -15,13 +15,14 @@ fn main(rt: HostRuntime) -> anyhow::Result<()> {
         .read_to_end(&mut text)?;
     if text.len() > MOST_TEXT {
         rt.eprintln("the text is longer than 1000000 bytes")?;
-        return Err(anyhow!("not packed"));
+        bail!("not packed");
     }
-    match pack(rt.alloc(), text.as_slice()) {
-        Ok(bytes) => rt.stdout().write_all(bytes.as_slice())?,
+    // `?` alone would print the sentence and its end in one line.
+    match pack(rt.alloc(), &text) {
+        Ok(bytes) => rt.stdout().write_all(&bytes)?,
         Err(error) => {
             rt.eprintln(error)?;
-            return Err(anyhow!("not packed"));
+            bail!("not packed");
         }
     }
     Ok(())

@@ -1,14 +1,14 @@
 -- A whole text: its lines so far, and that it lists one schedule at most.
-use Rattle.std.proofs.Common.{◌≡◌, ℕ, ◌+◌, ◌-◌, ◌^◌, ◌<◌, ◌≤◌, List, [], ◌∷◌, ◌++◌, length, get_or, take, drop, Ok, Err, Result, sym, refl, ap, ◌∙◌, subst, ap₂, inl, inr, append_assoc, append-nil, arith, length-append, MatchResult}
-use Rattle.std.specs.List.{flat_map, AllByRecursion}
+use Rattle.std.proofs.Common.{◌≡◌, ℕ, ◌+◌, ◌^◌, ◌<◌, ◌≤◌, List, [], ◌∷◌, ◌++◌, length, Ok, Err, Result, sym, refl, ap, ◌∙◌, subst, ap₂, inl, inr, append_assoc, append-nil, arith, length-append, MatchResult}
+use Rattle.std.specs.List.{flat_map, All}
 use Rattle.std.proofs.lemmas.List.{flat_map_more}
-use Rattle.std.proofs.ByRecursion.{All-push}
+use Rattle.std.proofs.lemmas.Grind.{flat_map-append}
+use Rattle.std.proofs.lemmas.List.Elements.{All-head, All-tail, All-push}
 use Rattle.schedule.specs.declared.call.Call.{Call}
 use Rattle.schedule.specs.declared.call.Call.TheVariants.{Offer, Deliver, Run, Outlook, Commit}
 use Rattle.schedule.specs.declared.file.Fault.{Fault}
-use Rattle.schedule.specs.Layout.{four, bytes_of, Within, encode, Follows}
+use Rattle.schedule.specs.Layout.{bytes_of, Within, encode, Follows}
 use Rattle.schedule.specs.Lines.{fault_text}
-use Rattle.schedule.proofs.Fronts.{opens_1}
 use Rattle.schedule.proofs.Readings.{written_is_read}
 use Rattle.listing.specs.Listed.{call_line, end_line, listed}
 use Rattle.packing.specs.declared.error.Why.{Why}
@@ -22,7 +22,7 @@ use Rattle.packing.proofs.Texts.{call_line_laid, same_line, no_line, no_first, s
 -- what a line's number was added to
 pub unnumbered : {T : Type 0} (line : ℕ) (x : T) (r : Result T Why) → Ok x ≡ at_line line r → r ≡ Ok x
 unnumbered line x (Ok value) e = cc
-unnumbered line x (Err why) e = let z : ◌≡◌ {A = ℕ} 0 1 = cc in absurd (omega arith)
+unnumbered line x (Err why) e = cc
 
 -- a call's line is not empty
 line_some : (call : Call) (rest : List ℕ) → length rest < length (call_line call ++ rest)
@@ -33,12 +33,6 @@ line_some call rest =
     let alone = ap length (call_line_laid call []) in
     omega arith
 
-pub shorter : (call : Call) (rest after : List ℕ) → rest ≡ call_line call ++ after → length after < length rest
-shorter call rest after opened =
-    let some = line_some call after in
-    let same = ap length opened in
-    omega arith
-
 -- a call takes a byte at least
 byte_some : (call : Call) → 1 ≤ length (bytes_of call)
 byte_some (Offer time destination kind payload) = omega arith
@@ -47,32 +41,19 @@ byte_some (Run board) = omega arith
 byte_some Outlook = omega arith
 byte_some (Commit most) = omega arith
 
-joined_push : (f : Call → List ℕ) (calls : List Call) (call : Call) → flat_map f (calls ++ call ∷ []) ≡ flat_map f calls ++ f call
-joined_push f calls call = sym (flat_map_more f [] calls call)
-
--- the parts of an offer, one behind the other
-pub offer_pushed : (before letter time-there destination-there kind-there after : List ℕ) (time destination kind payload : ℕ) → letter ≡ before ++ 111 ∷ [] → time-there ≡ letter ++ four time → destination-there ≡ time-there ++ destination ∷ [] → kind-there ≡ destination-there ++ kind ∷ [] → after ≡ kind-there ++ four payload → after ≡ before ++ bytes_of (Offer time destination kind payload)
-offer_pushed before letter time-there destination-there kind-there after time destination kind payload l t d k p =
-    push_on before kind-there after (111 ∷ four time ++ destination ∷ kind ∷ []) (four payload)
-    (push_on before destination-there kind-there (111 ∷ four time ++ destination ∷ []) (kind ∷ [])
-    (push_on before time-there destination-there (111 ∷ four time) (destination ∷ []) (push_on before letter time-there (111 ∷ []) (four time) l t) d) k) p
-  where
-    push_on : (before between after xs ys : List ℕ) → between ≡ before ++ xs → after ≡ between ++ ys → after ≡ before ++ (xs ++ ys)
-    push_on before between after xs ys first second = second ∙ ap (λ l. l ++ ys) first ∙ append_assoc before xs ys
-
 -- one line more of the text is read
 line_read : (lines rest after : List ℕ) (calls : List Call) (call : Call) → lines ≡ flat_map call_line calls ++ rest → rest ≡ call_line call ++ after → lines ≡ flat_map call_line (calls ++ call ∷ []) ++ after
 line_read lines rest after calls call laid opened =
     laid
     ∙ ap (λ l. flat_map call_line calls ++ l) opened
     ∙ sym (append_assoc (flat_map call_line calls) (call_line call) after)
-    ∙ ap (λ l. l ++ after) (sym (joined_push call_line calls call))
+    ∙ ap (λ l. l ++ after) (flat_map_more call_line [] calls call)
 
 -- the lines before the rest are those of calls, whose bytes are counted, and the rest begins at the line
 pub record Measured (lines rest : List ℕ) (size line : ℕ) : Type 0 where
   pub calls : List Call
   pub laid : lines ≡ flat_map call_line calls ++ rest
-  pub within : AllByRecursion Within calls
+  pub within : All Within calls
   pub counted : size ≡ 6 + length (flat_map bytes_of calls)
   pub small : size ≤ 60000
   pub numbered : line ≡ length calls + 2
@@ -80,7 +61,7 @@ pub record Measured (lines rest : List ℕ) (size line : ℕ) : Type 0 where
 
 pub measured_more : (lines rest after : List ℕ) (size line more : ℕ) (call : Call) → Measured lines rest size line → rest ≡ call_line call ++ after → Within call → more ≡ length (bytes_of call) → size + more ≤ 60000 → Measured lines after (size + more) (line + 1)
 measured_more lines rest after size line more call m opened fits long small =
-    let bytes = ap length (joined_push bytes_of m.calls call) ∙ length-append (flat_map bytes_of m.calls) (bytes_of call) in
+    let bytes = ap length (sym (flat_map_more bytes_of [] m.calls call)) ∙ length-append (flat_map bytes_of m.calls) (bytes_of call) in
     let count = length-append m.calls (call ∷ []) in
     let one = byte_some call in
     let before = m.counted in
@@ -96,12 +77,8 @@ measured_more lines rest after size line more call m opened fits long small =
       some = omega arith;
     }
 
-pub measured_all : (lines rest : List ℕ) (size line : ℕ) → Measured lines rest size line → length rest ≡ 0 → LinesFit lines size
-measured_all lines [] size line m none = record { calls = m.calls; laid = m.laid ∙ append-nil _; within = m.within; counted = m.counted; small = m.small }
-measured_all lines (c ∷ rest) size line m none = absurd (omega arith)
-
 -- the text with the line of the end time before
-opens_with : (text lines rest : List ℕ) (end : ℕ) (calls : List Call) → text ≡ end_line end ++ lines → end < 2 ^ 32 → lines ≡ flat_map call_line calls ++ rest → AllByRecursion Within calls → OpensWith text end calls rest
+opens_with : (text lines rest : List ℕ) (end : ℕ) (calls : List Call) → text ≡ end_line end ++ lines → end < 2 ^ 32 → lines ≡ flat_map call_line calls ++ rest → All Within calls → OpensWith text end calls rest
 opens_with text lines rest end calls first fits laid within = record {
   laid = first ∙ ap (λ l. end_line end ++ l) laid ∙ sym (append_assoc (end_line end) (flat_map call_line calls) rest);
   end_within = fits;
@@ -123,21 +100,21 @@ refuses_line lines rest size line why m some broken text end first fits =
       numbered = m.numbered;
     })
 
-pub bad_line : {T : Type 0} (P : T → Type 0) (lines rest : List ℕ) (size line : ℕ) (r : Result T Why) (e : PackError) → Measured lines rest size line → 1 ≤ length rest → Err e ≡ at_line line r → MatchResult r P (λ why. LineFault (get_or rest 0 0 ∷ take (length rest - 1) (drop 1 rest)) why) → (text : List ℕ) (end : ℕ) → text ≡ end_line end ++ lines → end < 2 ^ 32 → Refuses text e
-bad_line P lines rest size line (Ok x) e m some is read text end first fits = let z : ◌≡◌ {A = ℕ} 0 1 = cc in absurd (omega arith)
-bad_line P lines rest size line (Err why) e m some is read text end first fits =
+pub bad_line : {T : Type 0} (P : T → Type 0) (lines rest : List ℕ) (size line : ℕ) (r : Result T Why) (e : PackError) → Measured lines rest size line → Err e ≡ at_line line r → MatchResult r P (λ why. (0 < length rest) × LineFault rest why) → (text : List ℕ) (end : ℕ) → text ≡ end_line end ++ lines → end < 2 ^ 32 → Refuses text e
+bad_line P lines rest size line (Ok x) e m is read text end first fits = cc
+bad_line P lines rest size line (Err why) e m is read text end first fits =
     let same : e ≡ BadLine line why = cc in
-    subst (λ x. Refuses text x) (sym same) (refuses_line lines rest size line why m some (subst (λ l. LineFault l why) (sym (opens_1 rest some)) read) text end first fits)
+    subst (Refuses text) (sym same) (refuses_line lines rest size line why m read.0 read.1 text end first fits)
 
 pub bad_end : {T : Type 0} (P : T → Type 0) (text : List ℕ) (r : Result T Why) (e : PackError) → Err e ≡ at_line 1 r → MatchResult r P (λ why. FirstFault text why) → Refuses text e
-bad_end P text (Ok x) e is read = let z : ◌≡◌ {A = ℕ} 0 1 = cc in absurd (omega arith)
+bad_end P text (Ok x) e is read = cc
 bad_end P text (Err why) e is read =
     let same : e ≡ BadLine 1 why = cc in
-    subst (λ x. Refuses text x) (sym same) (inl (refl, read))
+    subst (Refuses text) (sym same) (inl (refl, read))
 
 pub refuses_size : (lines rest after : List ℕ) (size line more : ℕ) (call : Call) → Measured lines rest size line → rest ≡ call_line call ++ after → Within call → more ≡ length (bytes_of call) → 60000 < size + more → (text : List ℕ) (end : ℕ) → text ≡ end_line end ++ lines → end < 2 ^ 32 → Refuses text TooLong
 refuses_size lines rest after size line more call m opened fits long large text end first end_fits =
-    let bytes = ap length (joined_push bytes_of m.calls call) ∙ length-append (flat_map bytes_of m.calls) (bytes_of call) in
+    let bytes = ap length (sym (flat_map_more bytes_of [] m.calls call)) ∙ length-append (flat_map bytes_of m.calls) (bytes_of call) in
     let counted = m.counted in
     record {
       end = end;
@@ -151,11 +128,8 @@ refuses_size lines rest after size line more call m opened fits long large text 
 pub record Written (lines rest before now : List ℕ) : Type 0 where
   pub calls : List Call
   pub laid : lines ≡ flat_map call_line calls ++ rest
-  pub within : AllByRecursion Within calls
+  pub within : All Within calls
   pub written : now ≡ before ++ flat_map bytes_of calls
-
-pub written_none : (lines before : List ℕ) → Written lines lines before before
-written_none lines before = record { calls = []; laid = refl; within = tt; written = sym (append-nil before) }
 
 pub written_more : (lines rest after before now more : List ℕ) (call : Call) → Written lines rest before now → rest ≡ call_line call ++ after → Within call → more ≡ now ++ bytes_of call → Written lines after before more
 written_more lines rest after before now more call w opened fits wrote = record {
@@ -165,41 +139,34 @@ written_more lines rest after before now more call w opened fits wrote = record 
   written = wrote ∙ ap (λ l. l ++ bytes_of call) w.written ∙ flat_map_more bytes_of before w.calls call;
 }
 
-pub written_up_to : (lines rest before now : List ℕ) (why : Why) → Written lines rest before now → LineFault rest why → WritesTheLines lines before now
-written_up_to lines rest before now why w stopped = record { calls = w.calls; rest = rest; why = why; laid = w.laid; within = w.within; stopped = stopped; written = w.written }
-
-pub written_all : (lines rest before now : List ℕ) → Written lines rest before now → length rest ≡ 0 → WritesTheLines lines before now
-written_all lines [] before now w none = written_up_to lines [] before now UnknownCall w refl
-written_all lines (c ∷ rest) before now w none = absurd (omega arith)
-
 -- the calls of a listing go on where those of its front end
 pub record Goes_on (calls front : List Call) (rest : List ℕ) : Type 0 where
   pub more : List Call
   pub calls_are : calls ≡ front ++ more
   pub rest_is : rest ≡ flat_map call_line more
-  pub within : AllByRecursion Within more
+  pub within : All Within more
 
-goes_on : (calls front : List Call) (rest : List ℕ) → AllByRecursion Within calls → AllByRecursion Within front → flat_map call_line calls ≡ flat_map call_line front ++ rest → Goes_on calls front rest
+goes_on : (calls front : List Call) (rest : List ℕ) → All Within calls → All Within front → flat_map call_line calls ≡ flat_map call_line front ++ rest → Goes_on calls front rest
 goes_on calls [] rest hc hf e = record { more = calls; calls_are = refl; rest_is = sym e; within = hc }
 goes_on [] (f ∷ front) rest hc hf e =
     let some = line_some f (flat_map call_line front ++ rest) in
     let long = ap length (e ∙ append_assoc (call_line f) (flat_map call_line front) rest) in
     absurd (omega arith)
 goes_on (c ∷ calls) (f ∷ front) rest hc hf e =
-    let same = same_line c f (flat_map call_line calls) (flat_map call_line front ++ rest) hc.0 hf.0 (e ∙ append_assoc (call_line f) (flat_map call_line front) rest) in
-    let on = goes_on calls front rest hc.1 hf.1 same.1 in
+    let same = same_line c f (flat_map call_line calls) (flat_map call_line front ++ rest) (All-head Within c calls hc) (All-head Within f front hf) (e ∙ append_assoc (call_line f) (flat_map call_line front) rest) in
+    let on = goes_on calls front rest (All-tail Within c calls hc) (All-tail Within f front hf) same.1 in
     record { more = on.more; calls_are = ap₂ (λ x xs. x ∷ xs) same.0 on.calls_are; rest_is = on.rest_is; within = on.within }
 
 -- no call goes on at a line at fault
-ends_there : (rest : List ℕ) (why : Why) (more : List Call) → AllByRecursion Within more → rest ≡ flat_map call_line more → LineFault rest why → more ≡ []
+ends_there : (rest : List ℕ) (why : Why) (more : List Call) → All Within more → rest ≡ flat_map call_line more → LineFault rest why → more ≡ []
 ends_there rest why [] within e fault = refl
-ends_there rest why (call ∷ more) within e fault = absurd (no_line call rest (flat_map call_line more) why within.0 fault e)
+ends_there rest why (call ∷ more) within e fault = absurd (no_line call rest (flat_map call_line more) why (All-head Within call more within) fault e)
 
 -- a text that is the listing of a schedule, which a file can hold
 pub record Sound (text : List ℕ) (end : ℕ) (calls : List Call) : Type 0 where
   pub laid : text ≡ end_line end ++ flat_map call_line calls
   pub end_within : end < 2 ^ 32
-  pub within : AllByRecursion Within calls
+  pub within : All Within calls
   pub small : length (encode end calls) ≤ 60000
 
 abbrev listed_of : Result (ℕ × List Call) Fault → List ℕ
@@ -233,10 +200,6 @@ sound_same text end other calls others s o =
     let none = ends_there [] UnknownCall on.1.more on.1.within on.1.rest_is refl in
     ap₂ encode on.0 (on.1.calls_are ∙ ap (λ l. others ++ l) none ∙ append-nil others)
 
-pub joined_append : (f : Call → List ℕ) (xs ys : List Call) → flat_map f (xs ++ ys) ≡ flat_map f xs ++ flat_map f ys
-joined_append f [] ys = refl
-joined_append f (x ∷ xs) ys = ap (λ l. f x ++ l) (joined_append f xs ys) ∙ sym (append_assoc (f x) (flat_map f xs) (flat_map f ys))
-
 -- such a text is refused for want of memory alone
 pub sound_wants_memory : (text : List ℕ) (end : ℕ) (calls : List Call) (e : PackError) → Sound text end calls → Refuses text e → e ≡ NoMemory
 sound_wants_memory text end calls (BadLine line why) s (inl first) = absurd (no_first end text (flat_map call_line calls) why first.1 s.end_within s.laid)
@@ -248,7 +211,7 @@ sound_wants_memory text end calls (BadLine line why) s (inr b) =
     absurd (omega arith)
 sound_wants_memory text end calls TooLong s p =
     let on = sound_goes_on text end p.end calls p.calls p.rest s p.before in
-    let bytes = ap length (ap (flat_map bytes_of) on.1.calls_are ∙ joined_append bytes_of p.calls on.1.more) ∙ length-append (flat_map bytes_of p.calls) (flat_map bytes_of on.1.more) in
+    let bytes = ap length (ap (flat_map bytes_of) on.1.calls_are ∙ flat_map-append bytes_of p.calls on.1.more) ∙ length-append (flat_map bytes_of p.calls) (flat_map bytes_of on.1.more) in
     let small = s.small in
     let large = p.large in
     absurd (omega arith)

@@ -1,11 +1,11 @@
 -- A number at the front of a text is read in one way.
-use Rattle.std.proofs.Common.{◌≡◌, ℕ, ◌+◌, ◌-◌, ◌*◌, ◌/◌, ◌%◌, ◌^◌, ◌<◌, ◌≤◌, ◌⊎◌, List, [], ◌∷◌, ◌++◌, length, get_or, take, drop, decimal, sym, refl, ap, ◌∙◌, subst, inl, inr, ⊎_elim, append_assoc, arith, rules}
+use Rattle.std.proofs.Common.{◌≡◌, ℕ, ◌+◌, ◌*◌, ◌/◌, ◌%◌, ◌^◌, ◌<◌, ◌≤◌, ◌⊎◌, List, [], ◌∷◌, ◌++◌, length, get_or, take, decimal, sym, refl, ap, ◌∙◌, subst, inl, inr, ⊎_elim, append_assoc, arith}
 use mathlib.Core.List.{append_cancel_left}
 use Rattle.std.proofs.lemmas.List.{get_or_append_left}
 use Rattle.std.proofs.lemmas.Fmt.{decimal_digit, decimal_step, decimal_nonempty, first_decimal, digits_decimal, digits_value-decimal}
-use Rattle.std.proofs.lemmas.Str.Parse.{IsNumeralModel, numerals_by_fold}
-use Rattle.std.specs.List.{AllByRecursion}
-use Rattle.schedule.proofs.Fronts.{opens_1}
+use Rattle.std.proofs.lemmas.Str.Parse.{IsNumeralModel, digit_from_value, numerals_by_value, tells_digits, digits_value-take-le}
+use Rattle.std.proofs.Math.Seq.{take-append_seam}
+use Rattle.std.specs.Str.Parse.{AllDigits, digits_value}
 use Rattle.packing.specs.declared.error.Why.{Why}
 use Rattle.packing.specs.Wrong.{NoDigit, LeadingZero, Above, NumberFault}
 
@@ -23,58 +23,30 @@ number_more text value digit rest after some small fits laid opened =
     ∙ sym (append_assoc (decimal value) ((48 + digit) ∷ []) after)
     ∙ ap (λ l. l ++ after) (sym (decimal_grows value digit some small fits))
 
--- a slice pattern that opens with a byte
-pub opens_at : (s : List ℕ) (c : ℕ) → 1 ≤ length s → get_or s 0 0 ≡ c → s ≡ c ∷ take (length s - 1) (drop 1 s)
-opens_at s c some is = opens_1 s some ∙ ap (λ x. x ∷ take (length s - 1) (drop 1 s)) is
+own : IsNumeralModel (AllDigits 10) (digits_value 10)
+own = numerals_by_value (AllDigits 10) tells_digits
 
-abbrev read_on : ℕ → List ℕ → ℕ
-read_on n [] = n
-read_on n (c ∷ cs) = read_on (10 * n + (c - 48)) cs
-
-abbrev Digit : ℕ → Type 0
-Digit c = (48 ≤ c) × (c ≤ 57)
-
-own : IsNumeralModel (AllByRecursion Digit) (read_on 0)
-own = numerals_by_fold _ (search rules) read_on (search rules)
-
-decimal_digits : (n : ℕ) → n < 2 ^ 64 → AllByRecursion Digit (decimal n)
-decimal_digits n small = digits_decimal own n small
-
--- the digits that a text opens with are the number's, and maybe more
-pub record Longer (ds more es : List ℕ) : Type 0 where
-  pub extra : List ℕ
-  pub laid : es ≡ ds ++ extra
-  pub digits : AllByRecursion Digit extra
-
--- of two runs of digits with a common continuation, the one that no digit follows is the longer
-longer : (ds es r s : List ℕ) → AllByRecursion Digit ds → AllByRecursion Digit es → NoDigit s → ds ++ r ≡ es ++ s → Longer ds r es
-longer [] es r s hd he stop e = record { extra = es; laid = refl; digits = he }
-longer (d ∷ ds) [] r (c ∷ s) hd he stop e =
+-- of two fronts of one text, the one that no digit follows goes on where the other, of digits, ends
+longer : (ds es r s : List ℕ) → AllDigits 10 ds → NoDigit s → ds ++ r ≡ es ++ s → (extra : List ℕ) × (es ≡ ds ++ extra)
+longer [] es r s digits stop e = (es, refl)
+longer (d ∷ ds) [] r [] digits stop e = cc
+longer (d ∷ ds) [] r (c ∷ s) digits stop e =
     let same : d ≡ c = cc in
-    absurd (⊎_elim (λ low. let k = hd.0.0 in omega arith) (λ high. let k = hd.0.1 in omega arith) stop)
-longer (d ∷ ds) [] r [] hd he stop e = let z : ◌≡◌ {A = ℕ} 0 1 = cc in absurd (omega arith)
-longer (d ∷ ds) (c ∷ es) r s hd he stop e =
+    let digit = digit_from_value d digits.0 in
+    absurd (⊎_elim (λ low. omega arith) (λ high. omega arith) stop)
+longer (d ∷ ds) (c ∷ es) r s digits stop e =
     let same : d ≡ c = cc in
     let tails : ds ++ r ≡ es ++ s = cc in
-    let more = longer ds es r s hd.1 he.1 stop tails in
-    record { extra = more.extra; laid = (λ i. sym same i ∷ more.laid i); digits = more.digits }
-
-read_append : (n : ℕ) (ds es : List ℕ) → read_on n (ds ++ es) ≡ read_on (read_on n ds) es
-read_append n [] es = refl
-read_append n (d ∷ ds) es = read_append (10 * n + (d - 48)) ds es
-
-read_grows : (n : ℕ) (ds : List ℕ) → n ≤ read_on n ds
-read_grows n [] = omega arith
-read_grows n (d ∷ ds) = let more = read_grows (10 * n + (d - 48)) ds in omega arith
+    let more = longer ds es r s digits.1 stop tails in
+    (more.0, (λ i. sym same i ∷ more.1 i))
 
 -- a number whose digits go on with no digit is at least each number that the text opens with
-pub opens_least : (m n : ℕ) (r s : List ℕ) → m < 2 ^ 64 → n < 2 ^ 64 → decimal n ++ r ≡ decimal m ++ s → NoDigit s → n ≤ m
+opens_least : (m n : ℕ) (r s : List ℕ) → m < 2 ^ 64 → n < 2 ^ 64 → decimal n ++ r ≡ decimal m ++ s → NoDigit s → n ≤ m
 opens_least m n r s mf nf e stop =
-    let l = longer (decimal n) (decimal m) r s (decimal_digits n nf) (decimal_digits m mf) stop e in
-    let value : m ≡ read_on n l.extra =
-    sym (digits_value-decimal own m mf) ∙ ap (read_on 0) l.laid ∙ read_append 0 (decimal n) l.extra ∙ ap (λ v. read_on v l.extra) (digits_value-decimal own n nf) in
-    let grows = read_grows n l.extra in
-    omega arith
+    let l = longer (decimal n) (decimal m) r s (digits_decimal own n nf) stop e in
+    let front : take (length (decimal n)) (decimal m) ≡ decimal n = ap (take (length (decimal n))) l.1 ∙ take-append_seam (decimal n) l.0 in
+    let least = digits_value-take-le 10 (decimal m) (length (decimal n)) (omega arith) in
+    omega (arith, ap (digits_value 10) front, digits_value-decimal own m mf, digits_value-decimal own n nf)
 
 pub same_number : (m n : ℕ) (r s : List ℕ) → m < 2 ^ 64 → n < 2 ^ 64 → decimal n ++ r ≡ decimal m ++ s → NoDigit r → NoDigit s → (n ≡ m) × (r ≡ s)
 same_number m n r s mf nf e stop-r stop-s =
@@ -85,11 +57,13 @@ same_number m n r s mf nf e stop-r stop-s =
 
 -- a number opens with a digit
 opens_number : (m : ℕ) (text rest : List ℕ) → m < 2 ^ 64 → NoDigit text → text ≡ decimal m ++ rest → ⊥
-opens_number m text rest small none e = opens_digit (decimal m) (decimal_digits m small) (decimal_nonempty m small) (subst NoDigit e none)
+opens_number m text rest small none e = opens_digit (decimal m) (digits_decimal own m small) (decimal_nonempty m small) (subst NoDigit e none)
   where
-    opens_digit : (ds : List ℕ) → AllByRecursion Digit ds → 0 < length ds → NoDigit (ds ++ rest) → ⊥
-    opens_digit [] h some none = omega arith
-    opens_digit (d ∷ ds) h some none = ⊎_elim (λ low. let k = h.0.0 in omega arith) (λ high. let k = h.0.1 in omega arith) none
+    opens_digit : (ds : List ℕ) → AllDigits 10 ds → 0 < length ds → NoDigit (ds ++ rest) → ⊥
+    opens_digit [] digits some none = omega arith
+    opens_digit (d ∷ ds) digits some none =
+        let digit = digit_from_value d digits.0 in
+        ⊎_elim (λ low. omega arith) (λ high. omega arith) none
 
 -- where no number is read, none stands
 pub no_number : (most m : ℕ) (text rest : List ℕ) (why : Why) → NumberFault most text why → m ≤ most → m < 2 ^ 64 → text ≡ decimal m ++ rest → NoDigit rest → ⊥
@@ -97,9 +71,10 @@ no_number most m text rest why (inl (is, inl none)) le small e stop = opens_numb
 no_number most m text rest why (inl (is, inr zero)) le small e stop =
     let two_digits : (48 ∷ (48 + zero.digit) ∷ []) ++ zero.rest ≡ decimal m ++ rest = sym zero.laid ∙ e in
     let ten = zero.small in
-    let l = longer (48 ∷ (48 + zero.digit) ∷ []) (decimal m) zero.rest rest ((omega arith, omega arith), ((omega arith, omega arith), tt)) (decimal_digits m small) stop two_digits in
-    let first : get_or (decimal m) 0 0 ≡ 48 = ap (λ ds. get_or ds 0 0) l.laid in
-    let long = ap length l.laid in
+    let digits : AllDigits 10 (48 ∷ (48 + zero.digit) ∷ []) = tells_digits.more 48 ((48 + zero.digit) ∷ []) (omega arith, omega arith) (tells_digits.more (48 + zero.digit) [] (omega arith, omega arith) tells_digits.empty) in
+    let l = longer (48 ∷ (48 + zero.digit) ∷ []) (decimal m) zero.rest rest digits stop two_digits in
+    let first : get_or (decimal m) 0 0 ≡ 48 = ap (λ ds. get_or ds 0 0) l.1 in
+    let long = ap length l.1 in
     let positive : 0 < m → ⊥ = (λ p. let f = first_decimal m p small in omega arith) in
     let nought : m ≡ 0 = omega (arith, positive) in
     let one : length (decimal m) ≡ 1 = ap (λ k. length (decimal k)) nought ∙ ap length (decimal_digit 0 (omega arith)) in

@@ -1,6 +1,8 @@
 -- A text is refused for one reason.
-use Rattle.std.proofs.Common.{◌≡◌, ℕ, ◌+◌, ◌^◌, ◌<◌, Bool, true, false, cond, eqb, ◌⊎◌, List, [], ◌∷◌, ◌++◌, length, Some, None, decimal, Option, sym, refl, ap, ◌∙◌, subst, ap₂, inl, inr, append_assoc, append-nil, arith, length-append}
-use Rattle.std.specs.List.{flat_map, AllByRecursion}
+use Rattle.std.proofs.Common.{◌≡◌, ℕ, ◌+◌, ◌^◌, Bool, true, false, cond, eqb, ◌⊎◌, List, [], ◌∷◌, ◌++◌, length, Some, None, decimal, Option, sym, refl, ap, ◌∙◌, subst, ap₂, inl, inr, append_assoc, append-nil, arith, length-append}
+use Rattle.std.specs.List.{flat_map, All}
+use Rattle.std.proofs.lemmas.List.Elements.{All-head, All-tail}
+use Rattle.std.proofs.lemmas.Grind.{flat_map-append}
 use Rattle.schedule.specs.declared.call.Call.{Call}
 use Rattle.schedule.specs.Layout.{bytes_of, Within}
 use Rattle.listing.specs.Listed.{call_line, end_line}
@@ -11,8 +13,8 @@ use Rattle.packing.specs.declared.error.PackError.TheVariants.{BadLine, TooLong,
 use Rattle.packing.specs.Wrong.{FieldFault, EndingFault, FieldsFault, FirstFault, mosts_of, LineFault}
 use Rattle.packing.specs.Packing.{OpensWith, BreaksOff, GoesPast, Refuses, RefusedForOneReason}
 use Rattle.packing.proofs.Numerals.{same_number, number_why}
-use Rattle.packing.proofs.Texts.{no_field, same_line, no_line, no_first, same_end_line}
-use Rattle.packing.proofs.Listings.{sound, sound_wants_memory, joined_append}
+use Rattle.packing.proofs.Texts.{Below, no_field, same_line, no_line, no_first, same_end_line}
+use Rattle.packing.proofs.Listings.{sound, sound_wants_memory}
 
 field_why : (most : ℕ) (text : List ℕ) (a b : Why) → FieldFault most text a → FieldFault most text b → a ≡ b
 field_why most [] a b x y = x ∙ sym y
@@ -25,11 +27,7 @@ ending_why : (text : List ℕ) (a b : Why) → EndingFault text a → EndingFaul
 ending_why [] a b x y = x ∙ sym y
 ending_why (c ∷ text) a b x y = x.1 ∙ sym y.1
 
--- the widths are 32 bits at most
-abbrev Narrow : List ℕ → Type 0
-Narrow mosts = AllByRecursion (λ most. most < 2 ^ 32) mosts
-
-fields_why : (mosts text : List ℕ) (a b : Why) → Narrow mosts → FieldsFault mosts text a → FieldsFault mosts text b → a ≡ b
+fields_why : (mosts text : List ℕ) (a b : Why) → Below (2 ^ 32) mosts → FieldsFault mosts text a → FieldsFault mosts text b → a ≡ b
 fields_why [] text a b w x y = ending_why text a b x y
 fields_why (most ∷ mosts) text a b w (inl x) (inl y) = field_why most text a b x y
 fields_why (most ∷ mosts) text a b w (inl x) (inr y) =
@@ -62,7 +60,7 @@ abbrev Told : Option (List ℕ) → List ℕ → Why → Type 0
 Told o rest why = elim o [ None ↦ why ≡ UnknownCall | Some mosts ↦ FieldsFault mosts rest why ]
 
 abbrev Bounded : Option (List ℕ) → Type 0
-Bounded o = elim o [ None ↦ Unit {0} | Some mosts ↦ Narrow mosts ]
+Bounded o = elim o [ None ↦ Unit {0} | Some mosts ↦ Below (2 ^ 32) mosts ]
 
 either : (b : Bool) (x y : Option (List ℕ)) → Bounded x → Bounded y → Bounded (cond b x y)
 either true x y hx hy = hx
@@ -89,15 +87,15 @@ record After (calls front : List Call) (r s : List ℕ) : Type 0 where
   more : List Call
   calls_are : calls ≡ front ++ more
   rest_is : s ≡ flat_map call_line more ++ r
-  within : AllByRecursion Within more
+  within : All Within more
 
-meet : (a b : List Call) (r s : List ℕ) → AllByRecursion Within a → AllByRecursion Within b → flat_map call_line a ++ r ≡ flat_map call_line b ++ s → After a b r s ⊎ After b a s r
+meet : (a b : List Call) (r s : List ℕ) → All Within a → All Within b → flat_map call_line a ++ r ≡ flat_map call_line b ++ s → After a b r s ⊎ After b a s r
 meet a [] r s ha hb e = inl (record { more = a; calls_are = refl; rest_is = sym e; within = ha })
 meet [] (y ∷ b) r s ha hb e = inr (record { more = y ∷ b; calls_are = refl; rest_is = e; within = hb })
-meet (x ∷ a) (y ∷ b) r s ha hb e = go (meet a b r s ha.1 hb.1 same.1)
+meet (x ∷ a) (y ∷ b) r s ha hb e = go (meet a b r s (All-tail Within x a ha) (All-tail Within y b hb) same.1)
   where
     same : (x ≡ y) × (flat_map call_line a ++ r ≡ flat_map call_line b ++ s)
-    same = same_line x y (flat_map call_line a ++ r) (flat_map call_line b ++ s) ha.0 hb.0 (sym (append_assoc (call_line x) (flat_map call_line a) r) ∙ e ∙ append_assoc (call_line y) (flat_map call_line b) s)
+    same = same_line x y (flat_map call_line a ++ r) (flat_map call_line b ++ s) (All-head Within x a ha) (All-head Within y b hb) (sym (append_assoc (call_line x) (flat_map call_line a) r) ∙ e ∙ append_assoc (call_line y) (flat_map call_line b) s)
 
     go : After a b r s ⊎ After b a s r → After (x ∷ a) (y ∷ b) r s ⊎ After (y ∷ b) (x ∷ a) s r
     go (inl t) = inl (record { more = t.more; calls_are = ap₂ (λ z zs. z ∷ zs) same.0 t.calls_are; rest_is = t.rest_is; within = t.within })
@@ -107,9 +105,9 @@ meet (x ∷ a) (y ∷ b) r s ha hb e = go (meet a b r s ha.1 hb.1 same.1)
 none_after : (calls front : List Call) (r s : List ℕ) (why : Why) → After calls front r s → LineFault s why → (calls ≡ front) × (s ≡ r)
 none_after calls front r s why t fault = go t.more t.calls_are t.rest_is t.within
   where
-    go : (more : List Call) → calls ≡ front ++ more → s ≡ flat_map call_line more ++ r → AllByRecursion Within more → (calls ≡ front) × (s ≡ r)
+    go : (more : List Call) → calls ≡ front ++ more → s ≡ flat_map call_line more ++ r → All Within more → (calls ≡ front) × (s ≡ r)
     go [] are is within = (are ∙ append-nil front, is)
-    go (call ∷ more) are is within = absurd (no_line call s (flat_map call_line more ++ r) why within.0 fault (is ∙ append_assoc (call_line call) (flat_map call_line more) r))
+    go (call ∷ more) are is within = absurd (no_line call s (flat_map call_line more ++ r) why (All-head Within call more within) fault (is ∙ append_assoc (call_line call) (flat_map call_line more) r))
 
 behind : (text : List ℕ) (m n : ℕ) (a b : List Call) (r s : List ℕ) → OpensWith text m a r → OpensWith text n b s → After a b r s ⊎ After b a s r
 behind text m n a b r s x y =
@@ -134,7 +132,7 @@ breaks_before text line why x y = go (behind text x.end y.end x.calls y.calls x.
   where
     go : After x.calls y.calls x.rest y.rest ⊎ After y.calls x.calls y.rest x.rest → ⊥
     go (inl t) =
-        let bytes = ap length (ap (flat_map bytes_of) t.calls_are ∙ joined_append bytes_of y.calls t.more) ∙ length-append (flat_map bytes_of y.calls) (flat_map bytes_of t.more) in
+        let bytes = ap length (ap (flat_map bytes_of) t.calls_are ∙ flat_map-append bytes_of y.calls t.more) ∙ length-append (flat_map bytes_of y.calls) (flat_map bytes_of t.more) in
         let small = x.small in
         let large = y.large in
         omega arith

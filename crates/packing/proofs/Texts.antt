@@ -1,7 +1,5 @@
 -- A line of a listing is read in one way, and where a line is at fault, none stands.
-use Rattle.std.proofs.Common.{◌≡◌, ℕ, ◌-◌, ◌^◌, ◌<◌, ◌≤◌, cond, eqb, List, [], ◌∷◌, ◌++◌, length, get_or, take, drop, decimal, sym, refl, ap, ◌∙◌, subst, ap₂, inl, inr, append_assoc, arith}
-use Rattle.std.specs.List.{AllByRecursion}
-use Rattle.std.proofs.lemmas.List.{take_rest}
+use Rattle.std.proofs.Common.{◌≡◌, ℕ, ◌^◌, ◌<◌, ◌≤◌, cond, eqb, List, [], ◌∷◌, ◌++◌, get_or, decimal, sym, refl, ap, ◌∙◌, subst, ap₂, inl, inr, append_assoc, arith}
 use Rattle.schedule.specs.declared.call.Call.{Call}
 use Rattle.schedule.specs.declared.call.Call.TheVariants.{Offer, Deliver, Run, Outlook, Commit}
 use Rattle.schedule.specs.Layout.{Within}
@@ -9,12 +7,6 @@ use Rattle.listing.specs.Listed.{call_line, end_line}
 use Rattle.packing.specs.declared.error.Why.{Why}
 use Rattle.packing.specs.Wrong.{NoDigit, FieldFault, EndingFault, FieldsFault, FirstFault, LineFault}
 use Rattle.packing.proofs.Numerals.{same_number, no_number}
-
-pub opens_end : (s : List ℕ) → 3 ≤ length s → get_or s 0 0 ≡ 101 → get_or s 1 0 ≡ 110 → get_or s 2 0 ≡ 100 → s ≡ 101 ∷ 110 ∷ 100 ∷ take (length s - 3) (drop 3 s)
-opens_end [] h e n d = absurd (omega arith)
-opens_end (a ∷ []) h e n d = absurd (omega arith)
-opens_end (a ∷ b ∷ []) h e n d = absurd (omega arith)
-opens_end (a ∷ b ∷ c ∷ s) h e n d = (λ i. e i ∷ n i ∷ d i ∷ sym (take_rest (a ∷ b ∷ c ∷ s) 3) i)
 
 pub end_line_laid : (end : ℕ) (rest : List ℕ) → end_line end ++ rest ≡ 101 ∷ 110 ∷ 100 ∷ 32 ∷ decimal end ++ 10 ∷ rest
 end_line_laid end rest = ap (λ l. 101 ∷ 110 ∷ 100 ∷ 32 ∷ l) (append_assoc (decimal end) (10 ∷ []) rest)
@@ -67,14 +59,16 @@ UpTo [] (most ∷ mosts) = ⊥
 UpTo (n ∷ ns) [] = ⊥
 UpTo (n ∷ ns) (most ∷ mosts) = (n ≤ most) × UpTo ns mosts
 
-abbrev pub Small : List ℕ → Type 0
-Small ns = AllByRecursion (λ n. n < 2 ^ 64) ns
+-- each number is below the bound; a recursion of our own, so that it computes on a list that is written out
+abbrev pub Below : ℕ → List ℕ → Type 0
+Below bound [] = Unit {0}
+Below bound (n ∷ ns) = (n < bound) × Below bound ns
 
 fields_stop : (ns rest : List ℕ) → NoDigit (fields ns rest)
 fields_stop [] rest = inl (omega arith)
 fields_stop (n ∷ ns) rest = inl (omega arith)
 
-same_fields : (ms ns r s : List ℕ) → Small ms → Small ns → fields ms r ≡ fields ns s → (ms ≡ ns) × (r ≡ s)
+same_fields : (ms ns r s : List ℕ) → Below (2 ^ 64) ms → Below (2 ^ 64) ns → fields ms r ≡ fields ns s → (ms ≡ ns) × (r ≡ s)
 same_fields [] [] r s hm hn e = (refl, cc)
 same_fields [] (n ∷ ns) r s hm hn e = let z : ◌≡◌ {A = ℕ} 10 32 = cc in absurd (omega arith)
 same_fields (m ∷ ms) [] r s hm hn e = let z : ◌≡◌ {A = ℕ} 32 10 = cc in absurd (omega arith)
@@ -84,7 +78,7 @@ same_fields (m ∷ ms) (n ∷ ns) r s hm hn e =
     let others = same_fields ms ns r s hm.1 hn.1 first.1 in
     (ap₂ (λ x xs. x ∷ xs) first.0 others.0, others.1)
 
-numbers_small : (call : Call) → Within call → Small (numbers_of call)
+numbers_small : (call : Call) → Within call → Below (2 ^ 64) (numbers_of call)
 numbers_small (Offer time destination kind payload) h = (omega arith, (omega arith, (omega arith, (omega arith, tt))))
 numbers_small (Deliver index) h = (omega arith, tt)
 numbers_small (Run board) h = (omega arith, tt)
@@ -110,7 +104,7 @@ no_ending : (text rest : List ℕ) (why : Why) → EndingFault text why → text
 no_ending [] rest why fault e = let z : ◌≡◌ {A = ℕ} 0 1 = cc in omega arith
 no_ending (c ∷ text) rest why fault e = let is : c ≡ 10 = cc in fault.0 is
 
-no_fields : (mosts ns text rest : List ℕ) (why : Why) → AllByRecursion (λ most. most < 2 ^ 32) mosts → FieldsFault mosts text why → UpTo ns mosts → text ≡ fields ns rest → ⊥
+no_fields : (mosts ns text rest : List ℕ) (why : Why) → Below (2 ^ 32) mosts → FieldsFault mosts text why → UpTo ns mosts → text ≡ fields ns rest → ⊥
 no_fields [] [] text rest why w fault up e = no_ending text rest why fault e
 no_fields [] (n ∷ ns) text rest why w fault up e = up
 no_fields (most ∷ mosts) [] text rest why w fault up e = up
@@ -153,8 +147,3 @@ same_end_line a b r s ha hb e =
 -- a number that is read, and a fault behind it
 pub past_field : (most number : ℕ) (mosts text rest : List ℕ) (why : Why) → (text ≡ 32 ∷ decimal number ++ rest) × (number ≤ most) × NoDigit rest → FieldsFault mosts rest why → FieldsFault (most ∷ mosts) text why
 past_field most number mosts text rest why read fault = inr (record { number = number; rest = rest; within = read.1; laid = read.0; no_more = read.2; then = fault })
-
-pub offer_laid : (time destination kind payload : ℕ) (text after-time after-destination after-kind rest : List ℕ) → text ≡ 32 ∷ decimal time ++ after-time → after-time ≡ 32 ∷ decimal destination ++ after-destination → after-destination ≡ 32 ∷ decimal kind ++ after-kind → after-kind ≡ 32 ∷ decimal payload ++ 10 ∷ rest → 111 ∷ text ≡ call_line (Offer time destination kind payload) ++ rest
-offer_laid time destination kind payload text after-time after-destination after-kind rest t d k p =
-    ap (λ l. 111 ∷ l) (t ∙ ap (λ l. 32 ∷ decimal time ++ l) (d ∙ ap (λ l. 32 ∷ decimal destination ++ l) (k ∙ ap (λ l. 32 ∷ decimal kind ++ l) p)))
-    ∙ sym (call_line_laid (Offer time destination kind payload) rest)

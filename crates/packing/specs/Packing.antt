@@ -1,6 +1,6 @@
 -- What is packed of a text, and what is said of a text that is not packed.
 use Rattle.std.specs.Prelude.{◌≡◌, ℕ, ◌+◌, ◌^◌, ◌<◌, ◌≤◌, ◌⊎◌, List, ◌++◌, length, Ok, Err, Result}
-use Rattle.std.specs.List.{flat_map, AllByRecursion}
+use Rattle.std.specs.List.{flat_map, All}
 use Rattle.schedule.specs.declared.call.Call.{Call}
 use Rattle.schedule.specs.Layout.{most_bytes, header_size, bytes_of, Within, encode, Follows}
 use Rattle.schedule.specs.Reading.{reading}
@@ -27,7 +27,7 @@ pub record Packs (text bytes : List ℕ) : Type 0 where
 pub record OpensWith (text : List ℕ) (end : ℕ) (calls : List Call) (rest : List ℕ) : Type 0 where
   pub laid : text ≡ (end_line end ++ flat_map call_line calls) ++ rest
   pub end_within : end < 2 ^ 32
-  pub within : AllByRecursion Within calls
+  pub within : All Within calls
 
 -- the text is a listing up to the line, which is at fault
 pub record BreaksOff (text : List ℕ) (line : ℕ) (why : Why) : Type 0 where
@@ -62,7 +62,7 @@ RefusedForOneReason = (text : List ℕ) (a b : PackError) → Refuses text a →
 pub record LinesFit (lines : List ℕ) (size : ℕ) : Type 0 where
   pub calls : List Call
   pub laid : lines ≡ flat_map call_line calls
-  pub within : AllByRecursion Within calls
+  pub within : All Within calls
   pub counted : size ≡ header_size + length (flat_map bytes_of calls)
   pub small : size ≤ most_bytes
 
@@ -72,6 +72,6 @@ pub record WritesTheLines (lines before after : List ℕ) : Type 0 where
   pub rest : List ℕ
   pub why : Why
   pub laid : lines ≡ flat_map call_line calls ++ rest
-  pub within : AllByRecursion Within calls
+  pub within : All Within calls
   pub stopped : LineFault rest why
   pub written : after ≡ before ++ flat_map bytes_of calls

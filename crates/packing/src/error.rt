@@ -37,8 +37,5 @@ impl From<AllocError> for PackError {
 pub(crate) fn at_line<T>(line: usize, read: Result<T, Why>) -> Result<T, PackError>
     ensures { result ≡ at_line line read }
 {
-    match read {
-        Ok(value) => Ok(value),
-        Err(why) => Err(PackError::BadLine { line, why }),
-    }
+    read.map_err(|why| PackError::BadLine { line, why })
 }

@@ -1,14 +1,16 @@
 // The file layer: a whole text, line by line, and the bytes of the file.
-ghost use Rattle.std.specs.Prelude.{◌≡◌, ℕ, ◌^◌, ◌<◌, List, [], ◌++◌, IfOk, MatchResult, OnOk};
+ghost use Rattle.std.specs.Prelude.{◌≡◌, ℕ, ◌^◌, ◌<◌, List, [], ◌++◌, length, IfOk, MatchOption, MatchResult, OnOk};
 ghost use Rattle.schedule.specs.declared.call.Call as calls;
-ghost use Rattle.schedule.specs.Layout.{encode, Follows};
-ghost use Rattle.listing.specs.Listed.{end_line, listed};
+ghost use Rattle.schedule.specs.Layout.{encode, Within, Follows};
+ghost use Rattle.listing.specs.Listed.{call_line, end_line, listed};
 ghost use Rattle.packing.specs.declared.error.PackError.TheVariants.{NoMemory};
+ghost use Rattle.packing.specs.Wrong.{LineFault};
 ghost use Rattle.packing.specs.Packing.{Packs, Refuses, LinesFit, WritesTheLines};
 
-use crate::bytes::{call_size, push_call, push_four, push_two};
-use crate::error::{PackError, at_line};
+use crate::bytes::{call_size, push_call};
+use crate::error::{PackError, Why, at_line};
 use crate::line::{read_call_line, read_end_line};
+use schedule::Call;
 use std::alloc::{AllocError, Global};
 
 const MOST_BYTES: usize = 60_000;
@@ -17,6 +19,16 @@ const HEADER_SIZE: usize = 6;
 
 const EDITION: u16 = 1;
 
+// The call of the first of the lines, and the lines that follow it, if there is a line.
+fn next_call(lines: &[u8]) -> Result<Option<(Call, &[u8])>, Why>
+    ensures { MatchResult result (λ next. MatchOption next (lines.now ≡ []) (λ x. (lines.now ≡ call_line x.0 ++ x.1.now) × Within x.0)) (λ why. (0 < length lines.now) × LineFault lines.now why) }
+{
+    let [letter, fields @ ..] = lines else {
+        return Ok(None);
+    };
+    read_call_line(char::from(*letter), fields).map(Some)
+}
+
 // How many bytes the file takes, from the lines of its calls, which begin at line 2.
 fn packed_size(lines: &[u8]) -> Result<usize, PackError>
     ensures { MatchResult result (λ size. LinesFit lines.now size) (λ e. (text : List ℕ) (end : ℕ) → text ≡ end_line end ++ lines.now → end < 2 ^ 32 → Refuses text e) }
@@ -24,8 +36,7 @@ fn packed_size(lines: &[u8]) -> Result<usize, PackError>
     let mut size = HEADER_SIZE;
     let mut line = 2;
     let mut rest = lines;
-    while let [letter, fields @ ..] = rest {
-        let (call, after) = at_line(line, read_call_line(*letter as char, fields))?;
+    while let Some((call, after)) = at_line(line, next_call(rest))? {
         size += call_size(call);
         if size > MOST_BYTES {
             return Err(PackError::TooLong);
@@ -41,10 +52,7 @@ fn push_lines(bytes: &mut Vec<u8>, lines: &[u8]) -> Result<(), AllocError>
     ensures { OnOk result (WritesTheLines lines.now bytes.old.items bytes.new.items) }
 {
     let mut rest = lines;
-    while let [letter, fields @ ..] = rest {
-        let Ok((call, after)) = read_call_line(*letter as char, fields) else {
-            return Ok(());
-        };
+    while let Ok(Some((call, after))) = next_call(rest) {
         push_call(bytes, call)?;
         rest = after;
     }
@@ -56,8 +64,8 @@ fn write_file(heap: Global, size: usize, end: u32, lines: &[u8]) -> Result<Vec<u
     ensures { IfOk result (λ v. WritesTheLines lines.now (encode end []) v.items) }
 {
     let mut bytes = Vec::with_capacity(heap, size)?;
-    push_two(&mut bytes, EDITION)?;
-    push_four(&mut bytes, end)?;
+    bytes.extend_from_slice(&EDITION.to_le_bytes())?;
+    bytes.extend_from_slice(&end.to_le_bytes())?;
     push_lines(&mut bytes, lines)?;
     Ok(bytes)
 }

@@ -5,17 +5,17 @@ ghost use Rattle.listing.specs.Listed.{call_line, end_line};
 ghost use Rattle.packing.specs.Wrong.{NoDigit, FieldFault, EndingFault, FieldsFault, FirstFault, LineFault};
 
 use crate::error::Why;
-use crate::number::read_number;
+use crate::number::{Narrow, read_number};
 use schedule::Call;
 
 // A space and a number.
-fn field(text: &[u8], most: u32) -> Result<(u32, &[u8]), Why>
-    ensures { MatchResult result (λ x. (text.now ≡ 32 ∷ decimal x.0 ++ x.1.now) × (x.0 ≤ most) × NoDigit x.1.now) (λ why. FieldFault most text.now why) }
+fn field<N: Narrow>(text: &[u8]) -> Result<(N, &[u8]), Why>
+    ensures { MatchResult result (λ x. (text.now ≡ 32 ∷ decimal (N.value x.0) ++ x.1.now) × (N.value x.0 ≤ N.most) × NoDigit x.1.now) (λ why. FieldFault N.most text.now why) }
 {
     let [b' ', number @ ..] = text else {
         return Err(Why::NoSpace);
     };
-    read_number(number, most)
+    read_number(number)
 }
 
 fn end_of_line(text: &[u8]) -> Result<&[u8], Why>
@@ -29,10 +29,10 @@ fn end_of_line(text: &[u8]) -> Result<&[u8], Why>
 }
 
 // A space, a number and the end of the line.
-fn last_field(text: &[u8], most: u32) -> Result<(u32, &[u8]), Why>
-    ensures { MatchResult result (λ x. (text.now ≡ 32 ∷ decimal x.0 ++ 10 ∷ x.1.now) × (x.0 ≤ most)) (λ why. FieldsFault (most ∷ []) text.now why) }
+fn last_field<N: Narrow>(text: &[u8]) -> Result<(N, &[u8]), Why>
+    ensures { MatchResult result (λ x. (text.now ≡ 32 ∷ decimal (N.value x.0) ++ 10 ∷ x.1.now) × (N.value x.0 ≤ N.most)) (λ why. FieldsFault (N.most ∷ []) text.now why) }
 {
-    let (number, ending) = field(text, most)?;
+    let (number, ending) = field(text)?;
     let rest = end_of_line(ending)?;
     Ok((number, rest))
 }
@@ -44,21 +44,21 @@ pub(crate) fn read_end_line(text: &[u8]) -> Result<(u32, &[u8]), Why>
     let [b'e', b'n', b'd', time @ ..] = text else {
         return Err(Why::NoEndTime);
     };
-    last_field(time, u32::MAX)
+    last_field(time)
 }
 
 // The four numbers of an offer.
 fn read_offer(fields: &[u8]) -> Result<(Call, &[u8]), Why>
     ensures { MatchResult result (λ x. (offer_letter ∷ fields.now ≡ call_line x.0 ++ x.1.now) × Within x.0) (λ why. LineFault (offer_letter ∷ fields.now) why) }
 {
-    let (time, rest) = field(fields, u32::MAX)?;
-    let (destination, rest) = field(rest, u8::MAX as u32)?;
-    let (kind, rest) = field(rest, u8::MAX as u32)?;
-    let (payload, rest) = last_field(rest, u32::MAX)?;
+    let (time, rest) = field(fields)?;
+    let (destination, rest) = field(rest)?;
+    let (kind, rest) = field(rest)?;
+    let (payload, rest) = last_field(rest)?;
     let call = Call::Offer {
         time,
-        destination: destination as u8,
-        kind: kind as u8,
+        destination,
+        kind,
         payload,
     };
     Ok((call, rest))
@@ -69,27 +69,22 @@ pub(crate) fn read_call_line(letter: char, fields: &[u8]) -> Result<(Call, &[u8]
     ensures { MatchResult result (λ x. (letter ∷ fields.now ≡ call_line x.0 ++ x.1.now) × Within x.0) (λ why. LineFault (letter ∷ fields.now) why) }
 {
     match letter {
-        'o' => Ok(read_offer(fields)?),
+        'o' => read_offer(fields),
         'd' => {
-            let (index, rest) = last_field(fields, u16::MAX as u32)?;
-            Ok((
-                Call::Deliver {
-                    index: index as u16,
-                },
-                rest,
-            ))
+            let (index, rest) = last_field(fields)?;
+            Ok((Call::Deliver { index }, rest))
         }
         'r' => {
-            let (board, rest) = last_field(fields, u8::MAX as u32)?;
-            Ok((Call::Run { board: board as u8 }, rest))
+            let (board, rest) = last_field(fields)?;
+            Ok((Call::Run { board }, rest))
         }
         'g' => {
             let rest = end_of_line(fields)?;
             Ok((Call::Outlook, rest))
         }
         'c' => {
-            let (most, rest) = last_field(fields, u16::MAX as u32)?;
-            Ok((Call::Commit { most: most as u16 }, rest))
+            let (most, rest) = last_field(fields)?;
+            Ok((Call::Commit { most }, rest))
         }
         _ => Err(Why::UnknownCall),
     }

@@ -1,5 +1,6 @@
 // The number layer: a number in decimal at the front of the text, and what follows it.
-ghost use Rattle.std.specs.Prelude.{◌≡◌, ◌+◌, ◌<◌, ◌≤◌, ◌∷◌, ◌++◌, decimal, MatchOption, MatchResult};
+ghost use Rattle.std.specs.Prelude.{◌≡◌, ℕ, ◌+◌, ◌^◌, ◌<◌, ◌≤◌, ◌∷◌, ◌++◌, decimal, MatchOption, MatchResult};
+ghost use Rattle.std.proofs.Common.{rules};
 ghost use Rattle.packing.specs.Wrong.{NoDigit, NumberFault};
 
 use crate::error::Why;
@@ -14,23 +15,68 @@ fn digit(text: &[u8]) -> Option<(u8, &[u8])>
     }
 }
 
-// A number that is at most `most`.
-pub(crate) fn read_number(text: &[u8], most: u32) -> Result<(u32, &[u8]), Why>
-    ensures { MatchResult result (λ x. (text.now ≡ decimal x.0 ++ x.1.now) × (x.0 ≤ most) × NoDigit x.1.now) (λ why. NumberFault most text.now why) }
+// A type of numbers, which says how large they may be.
+pub(crate) trait Narrow: Copy {
+    ghost value: { Self → ℕ };
+
+    ghost most: { ℕ };
+
+    // The number in this type, if it fits.
+    fn narrow(n: u64) -> Option<Self>
+        ensures { MatchOption result (most < n) (λ x. (value x ≡ n) × (n ≤ most)) };
+
+    ghost most_is_small: { most < 2 ^ 32 };
+}
+
+impl Narrow for u8 {
+    ghost value = { λ n. n };
+
+    ghost most = { 255 };
+
+    ghost most_is_small = { Prim.search rules };
+
+    fn narrow(n: u64) -> Option<u8> {
+        u8::try_from(n).ok()
+    }
+}
+
+impl Narrow for u16 {
+    ghost value = { λ n. n };
+
+    ghost most = { 65535 };
+
+    ghost most_is_small = { Prim.search rules };
+
+    fn narrow(n: u64) -> Option<u16> {
+        u16::try_from(n).ok()
+    }
+}
+
+impl Narrow for u32 {
+    ghost value = { λ n. n };
+
+    ghost most = { 4294967295 };
+
+    ghost most_is_small = { Prim.search rules };
+
+    fn narrow(n: u64) -> Option<u32> {
+        u32::try_from(n).ok()
+    }
+}
+
+pub(crate) fn read_number<N: Narrow>(text: &[u8]) -> Result<(N, &[u8]), Why>
+    ensures { MatchResult result (λ x. (text.now ≡ decimal (N.value x.0) ++ x.1.now) × (N.value x.0 ≤ N.most) × NoDigit x.1.now) (λ why. NumberFault N.most text.now why) }
 {
-    let Some((first, behind)) = digit(text) else {
-        return Err(Why::BadNumber);
-    };
-    let mut value = first as u64;
-    let mut rest = behind;
-    while value <= most as u64 {
+    let (first, mut rest) = digit(text).ok_or(Why::BadNumber)?;
+    let mut value = u64::from(first);
+    while let Some(number) = N::narrow(value) {
         let Some((next, after)) = digit(rest) else {
-            return Ok((value as u32, rest));
+            return Ok((number, rest));
         };
         if value == 0 {
             return Err(Why::BadNumber);
         }
-        value = value * 10 + next as u64;
+        value = value * 10 + u64::from(next);
         rest = after;
     }
     Err(Why::TooLarge)

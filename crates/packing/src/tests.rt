@@ -1,18 +1,16 @@
 // Texts that are packed and listed again, and texts that are refused, by the sentence that is printed.
 use crate::pack;
 use listing::list;
-use report::NoMemory;
+use std::process::Abort;
 use std::test::Fail;
 
-fn expect_back(rt: &impl AllocGlobal, text: &str) -> Result<(), Fail> {
+fn expect_back(rt: &(impl Abort + AllocGlobal), text: &str) -> Result<(), Fail> {
     let Ok(bytes) = pack(rt.alloc(), text.as_bytes()) else {
         return Err(Fail::new("not packed"));
     };
-    match list(rt.alloc(), bytes.as_slice()) {
-        Ok(listed) if listed.as_str() == text => Ok(()),
-        Ok(_) => Err(Fail::new("another text")),
-        Err(NoMemory) => Err(Fail::new("no memory")),
-    }
+    let listed = list(rt.alloc(), &bytes)?;
+    assert_eq!(rt; listed.as_str(), text);
+    Ok(())
 }
 
 fn expect_refusal(rt: &impl AllocGlobal, text: &str, sentence: &str) -> Result<(), Fail> {

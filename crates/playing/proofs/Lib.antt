@@ -1,6 +1,4 @@
 -- Lemmas of playing.
-mod Calls
-mod Pieces
 mod Told
 mod Driven
 mod FareRuns

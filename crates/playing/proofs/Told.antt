@@ -1,5 +1,5 @@
 -- The text of outcomes and their lines is that of the answers.
-use Rattle.std.proofs.Common.{◌≡◌, ℕ, ◌+◌, List, [], ◌∷◌, ◌++◌, map, length, drop, refl, ap, ◌∙◌, append_assoc}
+use Rattle.std.proofs.Common.{◌≡◌, ℕ, ◌+◌, List, [], ◌∷◌, ◌++◌, map, length, drop, refl, ap, ◌∙◌, append_assoc, subst, Result, OnOk}
 use Rattle.std.proofs.lemmas.List.{take_at, drop_at}
 use Rattle.bus.specs.declared.Message.{Message}
 use Rattle.model.specs.declared.call.Call.{Call}
@@ -51,12 +51,12 @@ run_told end calls outcomes log totals tells =
 
 -- so a text to which they are added goes on by that of the run
 pub run_added :
-    (before text : List ℕ) (end : ℕ) (calls others : List Call) (outcomes : List Outcome) (log : List Message) (totals : Totals)
+    {T E : Type 0} (r : Result T E) (before text : List ℕ) (end : ℕ) (calls others : List Call) (outcomes : List Outcome) (log : List Message) (totals : Totals)
     → Tells end calls outcomes log totals
     → calls ≡ others
-    → text ≡ before ++ outcomes_text 0 outcomes log ++ totals_line totals.committed totals.standing totals.undone
-    → text ≡ before ++ run_text end others
-run_added before text end calls others outcomes log totals tells same wrote =
-    wrote
-    ∙ append_assoc before (outcomes_text 0 outcomes log) (totals_line totals.committed totals.standing totals.undone)
-    ∙ ap (λ t. before ++ t) (run_told end calls outcomes log totals tells ∙ ap (run_text end) same)
+    → OnOk r (text ≡ before ++ outcomes_text 0 outcomes log ++ totals_line totals.committed totals.standing totals.undone)
+    → OnOk r (text ≡ before ++ run_text end others)
+run_added r before text end calls others outcomes log totals tells same wrote =
+    let told = append_assoc before (outcomes_text 0 outcomes log) (totals_line totals.committed totals.standing totals.undone)
+    ∙ ap (λ t. before ++ t) (run_told end calls outcomes log totals tells ∙ ap (run_text end) same) in
+    subst (λ (t : List ℕ). OnOk r (text ≡ t)) told wrote

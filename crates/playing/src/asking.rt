@@ -3,13 +3,12 @@ ghost use Rattle.std.specs.Prelude.{◌≡◌, map, IfOk};
 ghost use Rattle.playing.specs.Asked.{asked};
 
 use model::Call;
-use report::NoMemory;
-use std::alloc::Global;
+use std::alloc::{AllocError, Global};
 
 // A commit gets at most so many lines, whatever the schedule asks for.
 const MOST_LINES: u16 = 256;
 
-// What a schedule's call asks of the bench.
+// What a schedule's call asks of the bench. This is no `From`, since both types are of other crates.
 pub(crate) fn bench_call(call: schedule::Call) -> Call
     ensures { result ≡ asked call }
 {
@@ -37,12 +36,8 @@ pub(crate) fn bench_call(call: schedule::Call) -> Call
 }
 
 // All calls of a schedule, in their order.
-pub(crate) fn bench_calls(heap: Global, calls: &[schedule::Call]) -> Result<Vec<Call>, NoMemory>
+pub(crate) fn bench_calls(heap: Global, calls: &[schedule::Call]) -> Result<Vec<Call>, AllocError>
     ensures { IfOk result (λ v. v.items ≡ map asked calls.now) }
 {
-    let mut asked = Vec::new(heap);
-    for call in calls {
-        asked.push(bench_call(*call))?;
-    }
-    Ok(asked)
+    calls.iter().copied().map(bench_call).collect(heap)
 }

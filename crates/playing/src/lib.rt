@@ -6,10 +6,9 @@ ghost use Rattle.playing.specs.Asked.{asked};
 ghost use Rattle.playing.specs.Runs.{run_text, play_text, LinesAreTheSequentialLog};
 
 use asking::bench_calls;
-use report::NoMemory;
 use running::run_calls;
 use schedule::{ReadError, Schedule, read};
-use std::alloc::Global;
+use std::alloc::{AllocError, Global};
 use telling::add_run;
 
 mod asking;
@@ -19,18 +18,17 @@ mod telling;
 mod tests;
 
 // Adds what is told of the run of a schedule.
-fn add_schedule(heap: Global, text: &mut String, schedule: &Schedule) -> Result<(), NoMemory>
+fn add_schedule(heap: Global, text: &mut String, schedule: &Schedule) -> Result<(), AllocError>
     ensures { OnOk result (string_bytes text.new ≡ string_bytes text.old ++ run_text schedule.now.end (map asked schedule.now.calls.items)) }
 {
-    let calls = bench_calls(heap, schedule.calls.as_slice())?;
-    let run = run_calls(heap, schedule.end, calls.as_slice())?;
-    add_run(text, &run)?;
-    Ok(())
+    let calls = bench_calls(heap, &schedule.calls)?;
+    let run = run_calls(heap, schedule.end, &calls)?;
+    add_run(text, &run)
 }
 
 // The whole text that is printed of a file. For a sound one, the lines that it tells are those of the sequential machine.
 #[tactic(auto, using(crate::proofs::FareRuns::lawful_runs))]
-pub fn play(heap: Global, bytes: &[u8]) -> Result<String, NoMemory>
+pub fn play(heap: Global, bytes: &[u8]) -> Result<String, AllocError>
     ensures tells_the_run_or_the_fault { IfOk result (λ text. string_bytes text ≡ play_text bytes.now) }
     ensures lines_are_the_sequential_log { LinesAreTheSequentialLog bytes.now }
 {
@@ -38,7 +36,7 @@ pub fn play(heap: Global, bytes: &[u8]) -> Result<String, NoMemory>
     match read(heap, bytes) {
         Ok(schedule) => add_schedule(heap, &mut text, &schedule)?,
         Err(ReadError::Faulty(fault)) => writeln!(text, "{fault}")?,
-        Err(ReadError::NoMemory) => return Err(NoMemory),
+        Err(ReadError::NoMemory(error)) => return Err(error),
     }
     Ok(text)
 }

@@ -6,8 +6,7 @@ use bench::{Driven, Setup, Totals, drive};
 use bus::{BLANK, Message};
 use fare_rack::fare_rack;
 use model::{Call, Outcome};
-use report::NoMemory;
-use std::alloc::Global;
+use std::alloc::{AllocError, Global};
 
 // An outcome for each call, the committed lines, and the totals.
 #[derive(Drop)]
@@ -49,12 +48,12 @@ fn drive_new_bench(
 }
 
 // Runs the calls on a new bench, up to this end time.
-pub(crate) fn run_calls(heap: Global, end: u32, calls: &[Call]) -> Result<Run, NoMemory>
+pub(crate) fn run_calls(heap: Global, end: u32, calls: &[Call]) -> Result<Run, AllocError>
     ensures { IfOk result (λ run. Tells end calls.now run.outcomes.items run.log.items run.totals) }
 {
     let mut outcomes = vec![in heap; Outcome::Ran(0); calls.len()]?;
     let mut log = vec![in heap; BLANK; calls.len()]?;
-    let written = drive_new_bench(end, calls, outcomes.as_mut_slice(), log.as_mut_slice());
+    let written = drive_new_bench(end, calls, &mut outcomes, &mut log);
     log.truncate(written.lines);
     Ok(Run {
         outcomes,

@@ -7,7 +7,8 @@ use crate::running::Run;
 use bench::Totals;
 use bus::Message;
 use model::Outcome;
-use report::{NoMemory, add_lines, end_with_fields, end_with_one, end_with_three, end_with_two};
+use report::{add_lines, end_with, end_with_fields};
+use std::alloc::AllocError;
 
 // Adds what is told of the call with this index, which wrote these lines.
 pub(crate) fn add_outcome(
@@ -15,30 +16,26 @@ pub(crate) fn add_outcome(
     index: usize,
     outcome: &Outcome,
     lines: &[Message],
-) -> Result<(), NoMemory>
+) -> Result<(), AllocError>
     ensures { OnOk result (string_bytes text.new ≡ string_bytes text.old ++ outcome_text index outcome.now lines.now) }
 {
     match *outcome {
-        Outcome::Offered(_) => {}
+        Outcome::Offered(_) | Outcome::Delivered(0) | Outcome::Ran(_) => Ok(()),
         Outcome::Delivered(undone) => {
-            if undone > 0 {
-                text.push_str("U ")?;
-                end_with_one(text, undone as u64)?;
-            }
+            text.push_str("U ")?;
+            end_with(text, &[undone as u64])
         }
-        Outcome::Ran(_) => {}
         Outcome::Looked(Some(message)) => {
             text.push_str("G ")?;
-            end_with_fields(text, &message)?;
+            end_with_fields(text, &message)
         }
-        Outcome::Looked(None) => text.push_str("G -\n")?,
-        Outcome::Committed(_) => add_lines(text, lines)?,
+        Outcome::Looked(None) => text.push_str("G -\n"),
+        Outcome::Committed(_) => add_lines(text, lines),
         Outcome::Refused(refusal) => {
             text.push_str("R ")?;
-            end_with_two(text, index as u64, u64::from(refusal.number()))?;
+            end_with(text, &[index as u64, u64::from(refusal.number())])
         }
     }
-    Ok(())
 }
 
 // Adds what is told of calls in their order; their lines stand one behind the other in the log.
@@ -46,7 +43,7 @@ pub(crate) fn add_outcomes(
     text: &mut String,
     outcomes: &[Outcome],
     log: &[Message],
-) -> Result<(), NoMemory>
+) -> Result<(), AllocError>
     ensures { OnOk result (string_bytes text.new ≡ string_bytes text.old ++ outcomes_text 0 outcomes.now log.now) }
 {
     let mut rest = log;
@@ -59,22 +56,19 @@ pub(crate) fn add_outcomes(
 }
 
 // Adds what is told of a run: its outcomes, and then its totals.
-pub(crate) fn add_run(text: &mut String, run: &Run) -> Result<(), NoMemory>
+pub(crate) fn add_run(text: &mut String, run: &Run) -> Result<(), AllocError>
     ensures { let run = run.now in
         OnOk result (string_bytes text.new ≡ string_bytes text.old ++ outcomes_text 0 run.outcomes.items run.log.items ++ totals_line run.totals.committed run.totals.standing run.totals.undone) }
 {
-    add_outcomes(text, run.outcomes.as_slice(), run.log.as_slice())?;
+    add_outcomes(text, &run.outcomes, &run.log)?;
     let Totals {
         committed,
         standing,
         undone,
     } = run.totals;
     text.push_str("E ")?;
-    end_with_three(
+    end_with(
         text,
-        u64::from(committed),
-        u64::from(standing),
-        u64::from(undone),
-    )?;
-    Ok(())
+        &[u64::from(committed), u64::from(standing), u64::from(undone)],
+    )
 }

@@ -1,17 +1,12 @@
 // Files by what is printed of them: a fault, no calls, and calls that are refused.
 use crate::play;
-use report::NoMemory;
 use std::process::Abort;
 use std::test::Fail;
 
 fn expect(rt: &(impl Abort + AllocGlobal), bytes: &[u8], printed: &str) -> Result<(), Fail> {
-    match play(rt.alloc(), bytes) {
-        Ok(text) => {
-            assert!(rt; text.as_str() == printed);
-            Ok(())
-        },
-        Err(NoMemory) => Err(Fail::new("no memory")),
-    }
+    let text = play(rt.alloc(), bytes)?;
+    assert_eq!(rt; text.as_str(), printed);
+    Ok(())
 }
 
 #[test]

@@ -5,7 +5,6 @@ ghost use Rattle.std.specs.Prelude.{◌≡◌, ◌^◌, ◌<◌, length};
 ghost use Rattle.playing_c.specs.Copies.{Answers};
 
 use playing::play;
-use report::NoMemory;
 use std::alloc::Global;
 
 // What is answered where there is no memory for the listing, or it does not fit the output.
@@ -18,15 +17,11 @@ pub extern "C" fn majurofi_play(heap: Global, input: &[u8], output: &mut [u8]) -
     ensures { Answers input.now output.old output.new result }
 {
     match play(heap, input) {
-        Ok(text) => {
-            let listing = text.as_bytes();
-            let length = listing.len();
-            if length > output.len() {
-                return NOTHING;
-            }
-            output[0..length].copy_from_slice(listing);
+        Ok(text) if text.len() <= output.len() => {
+            let length = text.len();
+            output[..length].copy_from_slice(text.as_bytes());
             length
         }
-        Err(NoMemory) => NOTHING,
+        _ => NOTHING,
     }
 }

@@ -1,4 +1,3 @@
--- Lemmas for every text that grows line by line.
-mod Digits
-pub mod More
+-- Lemmas on numbers that are put one before the other.
+mod Fronts
 mod Spaced

@@ -1,7 +1,7 @@
 -- What is wrong with a file that does not follow the layout: the first thing in the order of the checks.
 use Rattle.std.specs.Prelude.{◌≡◌, ℕ, zero, suc, ◌+◌, ◌*◌, ◌^◌, ◌<◌, cond, ◌↔◌, List, [], ◌∷◌, ◌++◌, length, drop, Some, None, Ok, Err, Option, Result, ◌==◌, nat_lt, slice_index}
 use Rattle.std.specs.Option.{unwrap_or}
-use Rattle.std.specs.List.{AllByRecursion}
+use Rattle.std.specs.List.{All}
 use Rattle.schedule.specs.declared.call.Call as calls
 use Rattle.schedule.specs.declared.call.CallFault.{CallFault}
 use Rattle.schedule.specs.declared.call.CallFault.TheVariants as of_call
@@ -67,7 +67,7 @@ pub record BreaksOff (bytes : List ℕ) (fault : Fault) : Type 0 where
   pub why : CallFault
   pub laid : bytes ≡ encode end before ++ letter ∷ rest
   pub end_within : end < 2 ^ 32
-  pub within : AllByRecursion Within before
+  pub within : All Within before
   pub broken : call_fault letter rest ≡ Some why
   pub told : fault ≡ placed (length (encode end before)) why
 

@@ -1,6 +1,6 @@
 -- The layout of a schedule file, as an encoder: numbers, the lowest byte first, then calls, then the file.
 use Rattle.std.specs.Prelude.{◌≡◌, ℕ, ◌/◌, ◌%◌, ◌^◌, ◌<◌, ◌≤◌, List, [], ◌∷◌, ◌++◌, length}
-use Rattle.std.specs.List.{flat_map, AllByRecursion}
+use Rattle.std.specs.List.{flat_map, All}
 use Rattle.schedule.specs.declared.call.Call.{Call}
 use Rattle.schedule.specs.declared.call.Call.TheVariants.{Offer, Deliver, Run, Outlook, Commit}
 
@@ -67,4 +67,4 @@ pub record Follows (bytes : List ℕ) (end : ℕ) (calls : List Call) : Type 0 w
   pub laid : bytes ≡ encode end calls
   pub small : length bytes ≤ most_bytes
   pub end_within : end < 2 ^ 32
-  pub within : AllByRecursion Within calls
+  pub within : All Within calls

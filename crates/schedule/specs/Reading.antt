@@ -41,4 +41,4 @@ ReadsTheLayout bytes = (end : ℕ) (calls : List Call) → (reading bytes ≡ Ok
 abbrev pub AnswersTheReading : List ℕ → Result Schedule ReadError → Type 0
 AnswersTheReading bytes (Ok s) = reading bytes ≡ Ok (s.end, vec_items s.calls)
 AnswersTheReading bytes (Err (Faulty fault)) = reading bytes ≡ Err fault
-AnswersTheReading bytes (Err NoMemory) = (fault_of bytes ≡ None) × (header_size < length bytes)
+AnswersTheReading bytes (Err (NoMemory _)) = (fault_of bytes ≡ None) × (header_size < length bytes)

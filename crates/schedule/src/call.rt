@@ -4,7 +4,7 @@ ghost use Rattle.schedule.specs.declared.call.CallFault.TheVariants.{Number};
 ghost use Rattle.schedule.specs.Layout.{offer_letter, bytes_of, Within};
 ghost use Rattle.schedule.specs.Faults.{call_fault};
 
-use crate::number::{CutShort, four_bytes, one_byte, two_bytes};
+use crate::number::{CutShort, read_number};
 
 // What a schedule can ask of the bench.
 #[derive(Clone, Copy)]
@@ -48,13 +48,13 @@ impl From<CutShort> for CallFault {
 }
 
 // The numbers of an offer.
-fn read_offer(numbers: &[u8]) -> Result<(Call, &[u8]), CutShort>
-    ensures { MatchResult result (λ x. (offer_letter ∷ numbers.now ≡ bytes_of x.0 ++ x.1.now) × Within x.0) (λ _. length numbers.now < 10) }
+fn read_offer(numbers: &[u8]) -> Result<(Call, &[u8]), CallFault>
+    ensures { MatchResult result (λ x. (offer_letter ∷ numbers.now ≡ bytes_of x.0 ++ x.1.now) × Within x.0) (λ e. call_fault offer_letter numbers.now ≡ Some e) }
 {
-    let (time, rest) = four_bytes(numbers)?;
-    let (destination, rest) = one_byte(rest)?;
-    let (kind, rest) = one_byte(rest)?;
-    let (payload, rest) = four_bytes(rest)?;
+    let (time, rest) = read_number(numbers)?;
+    let (destination, rest) = read_number(rest)?;
+    let (kind, rest) = read_number(rest)?;
+    let (payload, rest) = read_number(rest)?;
     let call = Call::Offer {
         time,
         destination,
@@ -69,18 +69,18 @@ pub fn read_call(letter: char, numbers: &[u8]) -> Result<(Call, &[u8]), CallFaul
     ensures { MatchResult result (λ x. (letter ∷ numbers.now ≡ bytes_of x.0 ++ x.1.now) × Within x.0) (λ e. call_fault letter numbers.now ≡ Some e) }
 {
     match letter {
-        'o' => Ok(read_offer(numbers)?),
+        'o' => read_offer(numbers),
         'd' => {
-            let (index, rest) = two_bytes(numbers)?;
+            let (index, rest) = read_number(numbers)?;
             Ok((Call::Deliver { index }, rest))
         }
         'r' => {
-            let (board, rest) = one_byte(numbers)?;
+            let (board, rest) = read_number(numbers)?;
             Ok((Call::Run { board }, rest))
         }
         'g' => Ok((Call::Outlook, numbers)),
         'c' => {
-            let (most, rest) = two_bytes(numbers)?;
+            let (most, rest) = read_number(numbers)?;
             Ok((Call::Commit { most }, rest))
         }
         _ => Err(CallFault::UnknownLetter),

@@ -1,12 +1,12 @@
 // The file layer: the header, and the calls up to the file's end.
-ghost use Rattle.std.specs.Prelude.{◌≡◌, ◌-◌, ◌^◌, ◌<◌, ◌≤◌, [], ◌∷◌, ◌++◌, length, Some, None, MatchResult};
-ghost use Rattle.schedule.specs.declared.file.ReadError.TheVariants.{Faulty};
-ghost use Rattle.schedule.specs.Layout.{most_bytes, encode};
+ghost use Rattle.std.specs.Prelude.{◌≡◌, ◌-◌, ◌^◌, ◌<◌, ◌≤◌, [], ◌∷◌, ◌++◌, length, Some, None, MatchOption, MatchResult};
+ghost use Rattle.schedule.specs.declared.file.ReadError.TheVariants.{Faulty, NoMemory};
+ghost use Rattle.schedule.specs.Layout.{most_bytes, bytes_of, Within, encode};
 ghost use Rattle.schedule.specs.Faults.{placed, placed_result, in_file, header_fault, calls_fault, FaultsWhereItBreaksOff};
 ghost use Rattle.schedule.specs.Reading.{AnswersTheReading, ReadsTheLayout};
 
 use crate::call::{Call, CallFault, read_call};
-use std::alloc::Global;
+use std::alloc::{AllocError, AllocFailed, Global};
 
 const MOST_BYTES: usize = 60_000;
 
@@ -49,7 +49,7 @@ pub struct Fault {
 #[derive(Clone, Copy)]
 pub enum ReadError {
     Faulty(Fault),
-    NoMemory,
+    NoMemory(AllocError),
 }
 
 impl From<Fault> for ReadError {
@@ -57,6 +57,14 @@ impl From<Fault> for ReadError {
 
     fn from(e: Fault) -> ReadError {
         ReadError::Faulty(e)
+    }
+}
+
+impl<T: Drop> From<AllocFailed<T>> for ReadError {
+    ghost from_gives = { λ _ r. r ≡ NoMemory (record {}) };
+
+    fn from(e: AllocFailed<T>) -> ReadError {
+        ReadError::NoMemory(e.into())
     }
 }
 
@@ -110,10 +118,19 @@ fn read_header(bytes: &[u8]) -> Result<(u32, &[u8]), Fault>
 pub fn placed_at<T>(offset: usize, read: Result<T, CallFault>) -> Result<T, Fault>
     ensures { result ≡ placed_result offset read }
 {
-    match read {
-        Ok(value) => Ok(value),
-        Err(fault) => Err(fault.at(offset)),
-    }
+    read.map_err(|fault| fault.at(offset))
+}
+
+// The call that the rest of the file opens with, and the bytes behind it, if the file has not ended.
+fn next_call<'a>(bytes: &[u8], rest: &'a [u8]) -> Result<Option<(Call, &'a [u8])>, Fault>
+    requires { length rest.now ≤ length bytes.now }
+    ensures { MatchResult result (λ next. MatchOption next (rest.now ≡ []) (λ x. (rest.now ≡ bytes_of x.0 ++ x.1.now) × Within x.0)) (λ e. calls_fault (length bytes.now - length rest.now) 0 rest.now ≡ Some e) }
+{
+    let [letter, numbers @ ..] = rest else {
+        return Ok(None);
+    };
+    let offset = bytes.len() - rest.len();
+    placed_at(offset, read_call(char::from(*letter), numbers)).map(Some)
 }
 
 // Whether the calls in `tail`, the end of the file, are sound: if not, the first fault.
@@ -122,9 +139,7 @@ fn check_calls(bytes: &[u8], tail: &[u8]) -> Result<(), Fault>
     ensures { MatchResult result (λ _. calls_fault (length bytes.now - length tail.now) 0 tail.now ≡ None) (λ e. calls_fault (length bytes.now - length tail.now) 0 tail.now ≡ Some e) }
 {
     let mut left = tail;
-    while let [letter, numbers @ ..] = left {
-        let place = bytes.len() - left.len();
-        let (_, after) = placed_at(place, read_call(*letter as char, numbers))?;
+    while let Some((_, after)) = next_call(bytes, left)? {
         left = after;
     }
     Ok(())
@@ -139,12 +154,10 @@ pub fn read(heap: Global, bytes: &[u8]) -> Result<Schedule, ReadError>
     let (end, body) = read_header(bytes)?;
     let mut calls = Vec::new(heap);
     let mut rest = body;
-    while let [letter, numbers @ ..] = rest {
-        let offset = bytes.len() - rest.len();
-        let (call, after) = placed_at(offset, read_call(*letter as char, numbers))?;
-        if calls.push(call).is_err() {
+    while let Some((call, after)) = next_call(bytes, rest)? {
+        if let Err(error) = calls.push(call) {
             check_calls(bytes, after)?;
-            return Err(ReadError::NoMemory);
+            return Err(error.into());
         }
         rest = after;
     }

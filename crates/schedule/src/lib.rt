@@ -10,4 +10,4 @@ mod show;
 pub use call::{Call, CallFault, read_call};
 pub use cases::{the_example_reads_as_its_calls, worked_files_have_their_faults};
 pub use file::{Fault, Layer, ReadError, Refusal, Schedule, placed_at, read};
-pub use number::{CutShort, four_bytes, one_byte, two_bytes};
+pub use number::{CutShort, LittleEndian, read_number};

@@ -1,8 +1,7 @@
 // A schedule that runs to the end: the committed lines are all of the sequential machine's log.
+use crate::playing_text::packed;
 use oracle::reference_log;
-use packing::pack;
 use playing::play;
-use report::NoMemory;
 use std::test::Fail;
 
 // The example with the later card first, and then the calls that bring that card to its verdict.
@@ -11,9 +10,7 @@ const TO_THE_END: &str =
 
 #[test]
 fn play_and_reference_agree_at_the_end(rt: HostRuntime) -> Result<(), Fail> {
-    let Ok(bytes) = pack(rt.alloc(), TO_THE_END.as_bytes()) else {
-        return Err(Fail::new("the schedule cannot be packed"));
-    };
+    let bytes = packed(&rt, TO_THE_END)?;
     let lines =
         "L 10 255 0 1 2 77\nL 15 1 0 0 3 77\nL 18 0 0 1 4 1\nL 30 255 1 1 2 5\nL 35 1 1 0 3 5\nL 38 0 1 1 4 1\n";
     let mut played = String::from_str(rt.alloc(), "U 1\n")?;
@@ -21,15 +18,9 @@ fn play_and_reference_agree_at_the_end(rt: HostRuntime) -> Result<(), Fail> {
     played.push_str("E 6 0 1\n")?;
     let mut reference = String::from_str(rt.alloc(), lines)?;
     reference.push_str("E 6\n")?;
-    match play(rt.alloc(), bytes.as_slice()) {
-        Ok(text) => assert!(rt; text.as_str() == played.as_str()),
-        Err(NoMemory) => return Err(Fail::new("no memory")),
-    }
-    match reference_log(rt.alloc(), bytes.as_slice()) {
-        Ok(text) => {
-            assert!(rt; text.as_str() == reference.as_str());
-            Ok(())
-        },
-        Err(NoMemory) => Err(Fail::new("no memory")),
-    }
+    let text = play(rt.alloc(), &bytes)?;
+    assert_eq!(rt; text.as_str(), played.as_str());
+    let log = reference_log(rt.alloc(), &bytes)?;
+    assert_eq!(rt; log.as_str(), reference.as_str());
+    Ok(())
 }

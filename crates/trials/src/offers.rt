@@ -20,7 +20,7 @@ fn an_offer_for_the_last_lines_time_passes(rt: HostRuntime) -> Result<(), Fail> 
     text.push_str("o 38 1 2 9\no 37 1 2 9\ng\n")?;
     expect(
         &rt,
-        text.as_str(),
+        &text,
         "L 30 255 0 1 2 5\nL 35 1 0 0 3 5\nL 38 0 0 1 4 1\nR 9 20\nG 38 255 1 1 2 9\nE 3 0 0\n",
     )
 }
@@ -32,7 +32,7 @@ fn the_last_line_goes_before_full_transit(rt: HostRuntime) -> Result<(), Fail> {
     text.push_str("o 37 1 2 9\no 38 1 2 9\n")?;
     expect(
         &rt,
-        text.as_str(),
+        &text,
         "L 30 255 0 1 2 5\nL 35 1 0 0 3 5\nL 38 0 0 1 4 1\nR 136 20\nR 137 21\nE 3 0 0\n",
     )
 }

@@ -1,9 +1,13 @@
 // A schedule as text, packed and played.
 use packing::pack;
 use playing::play;
-use report::NoMemory;
 use std::process::Abort;
 use std::test::Fail;
+
+// The file of the schedule that a text lists.
+pub(crate) fn packed(rt: &impl AllocGlobal, schedule: &str) -> Result<Vec<u8>, Fail> {
+    pack(rt.alloc(), schedule.as_bytes()).map_err(|_| Fail::new("the schedule cannot be packed"))
+}
 
 // Plays the schedule that a text lists, and compares what is printed.
 pub(crate) fn expect(
@@ -11,16 +15,10 @@ pub(crate) fn expect(
     schedule: &str,
     printed: &str,
 ) -> Result<(), Fail> {
-    match pack(rt.alloc(), schedule.as_bytes()) {
-        Ok(bytes) => match play(rt.alloc(), bytes.as_slice()) {
-            Ok(text) => {
-                assert!(rt; text.as_str() == printed);
-                Ok(())
-            },
-            Err(NoMemory) => Err(Fail::new("no memory")),
-        },
-        Err(_) => Err(Fail::new("the schedule cannot be packed")),
-    }
+    let bytes = packed(rt, schedule)?;
+    let text = play(rt.alloc(), &bytes)?;
+    assert_eq!(rt; text.as_str(), printed);
+    Ok(())
 }
 
 // Adds a line many times.

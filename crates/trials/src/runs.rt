@@ -9,7 +9,7 @@ fn more_than_126_in_transit_are_too_many(rt: HostRuntime) -> Result<(), Fail> {
     text.push_str("r 1\nr 2\nr 3\nd 0\nr 2\n")?;
     expect(
         &rt,
-        text.as_str(),
+        &text,
         "R 0 1\nR 1 23\nR 131 23\nR 132 21\nR 133 1\nE 0 1 0\n",
     )
 }

@@ -6,5 +6,5 @@ use Rattle.playing.proofs.add_schedule.Goals as goal
 
 pub returns : goal.returns
 returns c =
-    let same = c.as_slice-2.ensures.value ∙ c.in_ok-calls.ensures ∙ ap (map asked) c.as_slice.ensures.value in
-    run_added _ _ c.args.schedule.now.end _ _ _ _ _ c.in_ok-run.ensures same c.in_ok-add_run.ensures
+    let same = c.deref-2.ensures.value ∙ c.in_ok-calls.ensures ∙ ap (map asked) c.deref.ensures.value in
+    run_added _ _ _ c.args.schedule.now.end _ _ _ _ _ c.in_ok-run.ensures same c.add_run.ensures

@@ -1,6 +1,5 @@
 -- A turn adds the call's stimulus, if it is one.
 use Rattle.std.proofs.Common.{◌≡◌, ◌<◌, length, vec_items, sym, ap, ◌∙◌, append-nil, rules}
-use Rattle.std.proofs.lemmas.List.{take_all}
 use Rattle.oracle.proofs.More.{stimuli_more, stimuli_fit}
 use Rattle.oracle.proofs.offers.stimuli_of.Goals as goal
 use Rattle.oracle.proofs.offers.stimuli_of.Goals.{in-Some+in_ok-push, in_default}
@@ -22,6 +21,3 @@ loop-call-preserved c =
           stimuli_more _ _ _ c.args.calls.now c.loop-call.call-index _ _ _ lt c.loop-call.invariant counted w.in_default.ensures
           (ap vec_items w.stimuli-is ∙ sym (append-nil _))
     ]
-
-pub returns : goal.returns
-returns c = search (rules, take_all)

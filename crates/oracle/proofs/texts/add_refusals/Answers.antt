@@ -1,6 +1,5 @@
 -- A turn adds the line of the call, if it is refused.
 use Rattle.std.proofs.Common.{◌≡◌, ◌++◌, Some, string_bytes, sym, ap, ◌∙◌, append_assoc, append-nil, rules}
-use Rattle.std.proofs.lemmas.List.{take_all}
 use Rattle.oracle.specs.Texts.{refusal_line}
 use Rattle.oracle.proofs.More.{refusals_more}
 use Rattle.oracle.proofs.texts.add_refusals.Goals as goal
@@ -17,6 +16,3 @@ loop-index-preserved c =
           refusals_more _ _ _ _ c.args.calls.now c.loop-index.index-counter _ _ c.loop-index-test.true c.loop-index.invariant w.in_default.ensures
           (ap string_bytes w.text-is ∙ sym (append-nil _))
     ]
-
-pub returns : goal.returns
-returns c = search (rules, take_all)

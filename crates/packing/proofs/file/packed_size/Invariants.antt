@@ -3,8 +3,8 @@ use Rattle.std.proofs.Common.{length}
 use Rattle.packing.proofs.Listings.{Measured}
 use Rattle.packing.proofs.file.packed_size.Given as goal
 
-abbrev pub invariant-loop-rest : goal.invariant-loop-rest
-invariant-loop-rest l = Measured l.lines l.rest l.size l.line
+abbrev pub invariant-loop-call : goal.invariant-loop-call
+invariant-loop-call l = Measured l.lines l.rest l.size l.line
 
-abbrev pub decreases-loop-rest : goal.decreases-loop-rest
-decreases-loop-rest l = length l.rest
+abbrev pub decreases-loop-call : goal.decreases-loop-call
+decreases-loop-call l = length l.rest

@@ -1,7 +1,7 @@
 -- A fault in the last field, and the four fields of an offer.
-use Rattle.std.proofs.Common.{[], ◌∷◌, rules}
+use Rattle.std.proofs.Common.{[], ◌∷◌, append_assoc, rules}
 use Rattle.std.proofs.lemmas.Result.{err_from_is_err_and}
-use Rattle.packing.proofs.Texts.{past_field, offer_laid}
+use Rattle.packing.proofs.Texts.{past_field}
 use Rattle.packing.proofs.line.read_offer.Goals as goal
 
 pub returns-in_err-payload : goal.returns-in_err-payload
@@ -13,9 +13,4 @@ returns-in_err-payload c =
     (past_field 255 _ (4294967295 ∷ []) _ _ _ c.in_ok-kind.ensures c.in_err-payload.ensures)))
 
 pub returns : goal.returns
-returns c =
-    let time = c.in_ok-time.ensures in
-    let destination = c.in_ok-destination.ensures in
-    let kind = c.in_ok-kind.ensures in
-    let payload = c.in_ok-payload.ensures in
-    (offer_laid _ _ _ _ c.args.fields.now _ _ _ _ time.0 destination.0 kind.0 payload.0, search rules)
+returns c = search (rules, append_assoc)

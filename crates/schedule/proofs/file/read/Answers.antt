@@ -1,62 +1,33 @@
--- One call more, want of memory, and the file's end.
-use Rattle.std.proofs.Common.{◌≡◌, ◌≤◌, not, length, sym, ap, ◌∙◌, subst, rules}
-use Rattle.std.proofs.ResultArms.{chosen}
-use Rattle.std.proofs.lemmas.Result.{err_from_is_err_and}
-use Rattle.schedule.proofs.Fronts.{opens_1}
-use Rattle.schedule.proofs.Laws.{Sofar, one_more, done, unplaced, wants}
-use Rattle.schedule.proofs.Readings.{written_is_read, fault_is_read, reads_the_layout, faults_where_it_breaks_off}
+-- The two laws at each exit, and the file's end.
+use Rattle.schedule.proofs.Laws.{done}
+use Rattle.schedule.proofs.Readings.{written_is_read, reads_the_layout, faults_where_it_breaks_off}
 use Rattle.schedule.proofs.file.read.Goals as goal
 
-pub loop-rest-preserved : goal.loop-rest-preserved
-loop-rest-preserved c =
-    let read = rw (unplaced _ _ c.read_call.result c.in_ok-call.ensures) at c.read_call.ensures in
-    let some : 1 ≤ length c.loop-rest.rest.now = search rules in
-    let pushed = chosen _ _ _ _ c.push.ensures.items (c.is_err.ensures.negation ∙ ap not c.if-is_err.false) in
-    subst (λ l. Sofar c.args.bytes.now c.in_ok-end.end l c.in_ok-call.after.now) (sym pushed)
-    (one_more _ _ _ _ _ _ c.loop-rest.invariant (opens_1 c.loop-rest.rest.now some ∙ read.0) read.1)
+pub returns-in_err-call-clause-reads_the_layout : goal.returns-in_err-call-clause-reads_the_layout
+returns-in_err-call-clause-reads_the_layout c = reads_the_layout c.args.bytes.now c.type_inv.bytes
 
-pub returns-in_err-end : goal.returns-in_err-end
-returns-in_err-end c = record {
-  answers_the_reading = search rules;
-  reads_the_layout = reads_the_layout c.args.bytes.now c.type_inv.bytes;
-  faults_where_it_breaks_off = faults_where_it_breaks_off c.args.bytes.now c.type_inv.bytes;
-}
+pub returns-in_err-call-clause-faults_where_it_breaks_off : goal.returns-in_err-call-clause-faults_where_it_breaks_off
+returns-in_err-call-clause-faults_where_it_breaks_off c = faults_where_it_breaks_off c.args.bytes.now c.type_inv.bytes
 
-pub returns-in_err-call : goal.returns-in_err-call
-returns-in_err-call c = record {
-  answers_the_reading = search rules;
-  reads_the_layout = reads_the_layout c.args.bytes.now c.type_inv.bytes;
-  faults_where_it_breaks_off = faults_where_it_breaks_off c.args.bytes.now c.type_inv.bytes;
-}
+pub returns-in_err-check_calls-clause-reads_the_layout : goal.returns-in_err-check_calls-clause-reads_the_layout
+returns-in_err-check_calls-clause-reads_the_layout c = reads_the_layout c.args.bytes.now c.type_inv.bytes
 
-pub returns-in_err-check_calls : goal.returns-in_err-check_calls
-returns-in_err-check_calls c =
-    let read = rw (unplaced _ _ c.read_call.result c.in_ok-call.ensures) at c.read_call.ensures in
-    let some : 1 ≤ length c.loop-rest.rest.now = search rules in
-    let more = one_more _ _ _ _ _ _ c.loop-rest.invariant (opens_1 c.loop-rest.rest.now some ∙ read.0) read.1 in
-    let e = fault_is_read c.args.bytes.now _ (more.fault ∙ c.in_err-check_calls.ensures) in
-    let p = err_from_is_err_and c.from_residual-in_err-check_calls.result c.from_residual-in_err-check_calls.ensures.1 in
-    record {
-      answers_the_reading = rw (p.1, p.2) e;
-      reads_the_layout = reads_the_layout c.args.bytes.now c.type_inv.bytes;
-      faults_where_it_breaks_off = faults_where_it_breaks_off c.args.bytes.now c.type_inv.bytes;
-    }
+pub returns-in_err-check_calls-clause-faults_where_it_breaks_off : goal.returns-in_err-check_calls-clause-faults_where_it_breaks_off
+returns-in_err-check_calls-clause-faults_where_it_breaks_off c = faults_where_it_breaks_off c.args.bytes.now c.type_inv.bytes
 
-pub returns-then-is_err : goal.returns-then-is_err
-returns-then-is_err c =
-    let read = rw (unplaced _ _ c.read_call.result c.in_ok-call.ensures) at c.read_call.ensures in
-    let some : 1 ≤ length c.loop-rest.rest.now = search rules in
-    record {
-      answers_the_reading = wants _ _ _ _ _ _ c.loop-rest.invariant (opens_1 c.loop-rest.rest.now some ∙ read.0) read.1 c.in_ok-check_calls.ensures;
-      reads_the_layout = reads_the_layout c.args.bytes.now c.type_inv.bytes;
-      faults_where_it_breaks_off = faults_where_it_breaks_off c.args.bytes.now c.type_inv.bytes;
-    }
+pub returns-in-Err-clause-reads_the_layout : goal.returns-in-Err-clause-reads_the_layout
+returns-in-Err-clause-reads_the_layout c = reads_the_layout c.args.bytes.now c.type_inv.bytes
 
-pub returns : goal.returns
-returns c =
-    let none : length c.loop-rest.rest.now ≡ 0 = search rules in
-    record {
-      answers_the_reading = written_is_read _ _ _ (done _ _ _ c.loop-rest.rest.now c.loop-rest.invariant none);
-      reads_the_layout = reads_the_layout c.args.bytes.now c.type_inv.bytes;
-      faults_where_it_breaks_off = faults_where_it_breaks_off c.args.bytes.now c.type_inv.bytes;
-    }
+pub returns-in-Err-clause-faults_where_it_breaks_off : goal.returns-in-Err-clause-faults_where_it_breaks_off
+returns-in-Err-clause-faults_where_it_breaks_off c = faults_where_it_breaks_off c.args.bytes.now c.type_inv.bytes
+
+pub returns-clause-reads_the_layout : goal.returns-clause-reads_the_layout
+returns-clause-reads_the_layout c = reads_the_layout c.args.bytes.now c.type_inv.bytes
+
+pub returns-clause-faults_where_it_breaks_off : goal.returns-clause-faults_where_it_breaks_off
+returns-clause-faults_where_it_breaks_off c = faults_where_it_breaks_off c.args.bytes.now c.type_inv.bytes
+
+pub returns-clause-answers_the_reading : goal.returns-clause-answers_the_reading
+returns-clause-answers_the_reading c =
+    let ended = rw c.in_default.is at c.in_ok-call.ensures in
+    written_is_read _ _ _ (done _ _ _ _ c.loop-calls.invariant ended)
