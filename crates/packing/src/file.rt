@@ -77,5 +77,6 @@ pub fn pack(heap: Global, text: &[u8]) -> Result<Vec<u8>, PackError>
 {
     let (end, lines) = at_line(1, read_end_line(text))?;
     let size = packed_size(lines)?;
+    // `?` and `Ok`: the allocator's error becomes this crate's.
     Ok(write_file(heap, size, end, lines)?)
 }

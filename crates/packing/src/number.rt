@@ -15,7 +15,7 @@ fn digit(text: &[u8]) -> Option<(u8, &[u8])>
     }
 }
 
-// A type of numbers, which says how large they may be.
+// A type of numbers, which says how large they may be. `TryFrom` alone does not say it, and the loop below needs it.
 pub(crate) trait Narrow: Copy {
     ghost value: { Self → ℕ };
 
@@ -64,6 +64,7 @@ impl Narrow for u32 {
     }
 }
 
+// A number that fits its type. Not by `parse`, which takes leading zeros and no text behind the digits.
 pub(crate) fn read_number<N: Narrow>(text: &[u8]) -> Result<(N, &[u8]), Why>
     ensures { MatchResult result (λ x. (text.now ≡ decimal (N.value x.0) ++ x.1.now) × (N.value x.0 ≤ N.most) × NoDigit x.1.now) (λ why. NumberFault N.most text.now why) }
 {

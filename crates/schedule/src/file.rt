@@ -98,7 +98,7 @@ fn file_fault(offset: usize, refusal: Refusal) -> Fault
     }
 }
 
-// The end time, and the bytes of the calls.
+// The end time, and the bytes of the calls. One pattern for both numbers: a short header is one fault.
 fn read_header(bytes: &[u8]) -> Result<(u32, &[u8]), Fault>
     ensures { MatchResult result (λ x. (bytes.now ≡ encode x.0 [] ++ x.1.now) × (x.0 < 2 ^ 32) × (length bytes.now ≤ most_bytes)) (λ e. header_fault bytes.now ≡ Some e) }
 {
@@ -122,6 +122,7 @@ pub fn placed_at<T>(offset: usize, read: Result<T, CallFault>) -> Result<T, Faul
 }
 
 // The call that the rest of the file opens with, and the bytes behind it, if the file has not ended.
+// A function and no iterator: where memory runs out, `read` hands on the bytes that are left.
 fn next_call<'a>(bytes: &[u8], rest: &'a [u8]) -> Result<Option<(Call, &'a [u8])>, Fault>
     requires { length rest.now ≤ length bytes.now }
     ensures { MatchResult result (λ next. MatchOption next (rest.now ≡ []) (λ x. (rest.now ≡ bytes_of x.0 ++ x.1.now) × Within x.0)) (λ e. calls_fault (length bytes.now - length rest.now) 0 rest.now ≡ Some e) }
@@ -151,9 +152,8 @@ pub fn read(heap: Global, bytes: &[u8]) -> Result<Schedule, ReadError>
     ensures reads_the_layout { ReadsTheLayout bytes.now }
     ensures faults_where_it_breaks_off { FaultsWhereItBreaksOff bytes.now }
 {
-    let (end, body) = read_header(bytes)?;
+    let (end, mut rest) = read_header(bytes)?;
     let mut calls = Vec::new(heap);
-    let mut rest = body;
     while let Some((call, after)) = next_call(bytes, rest)? {
         if let Err(error) = calls.push(call) {
             check_calls(bytes, after)?;
