@@ -33,7 +33,7 @@ pub(crate) fn add_outcome(
         Outcome::Committed(_) => add_lines(text, lines),
         Outcome::Refused(refusal) => {
             text.push_str("R ")?;
-            end_with(text, &[index as u64, u64::from(refusal.number())])
+            end_with(text, &[index as u64, u64::from(u8::from(refusal))])
         }
     }
 }
