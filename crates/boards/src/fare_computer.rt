@@ -6,7 +6,7 @@ ghost use Rattle.boards.specs.FareComputer.{fare_computer_state, fare_computer_r
 use super::board::Board;
 use bus::{BEAT, INQUIRY, Message, Send, Sends, VERDICT, Words};
 
-#[derive(Clone, Copy)]
+#[derive(Clone, Copy, Default)]
 pub struct FareComputer {
     last: u32,
     inquiries: u32,
@@ -19,12 +19,7 @@ impl FareComputer {
     pub fn new() -> Self
         ensures { fare_computer_state result ≡ zeros }
     {
-        FareComputer {
-            last: 0,
-            inquiries: 0,
-            beats: 0,
-            spare: 0,
-        }
+        Self::default()
     }
 }
 

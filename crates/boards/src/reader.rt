@@ -12,7 +12,7 @@ const READY: u32 = 0;
 // The mode in which it waits for the verdict on its card.
 const WAITING: u32 = 1;
 
-#[derive(Clone, Copy)]
+#[derive(Clone, Copy, Default)]
 pub struct Reader {
     mode: u32,
     card: u32,
@@ -25,12 +25,7 @@ impl Reader {
     pub fn new() -> Self
         ensures { reader_state result ≡ zeros }
     {
-        Reader {
-            mode: 0,
-            card: 0,
-            accepted: 0,
-            refused: 0,
-        }
+        Self::default()
     }
 }
 

@@ -6,7 +6,7 @@ ghost use Rattle.boards.specs.Ticker.{ticker_state, ticker_rule};
 use super::board::Board;
 use bus::{BEAT, Message, Send, Sends, TICK, Words};
 
-#[derive(Clone, Copy)]
+#[derive(Clone, Copy, Default)]
 pub struct Ticker {
     period: u32,
     left: u32,
@@ -19,12 +19,7 @@ impl Ticker {
     pub fn new() -> Self
         ensures { ticker_state result ≡ zeros }
     {
-        Ticker {
-            period: 0,
-            left: 0,
-            address: 0,
-            count: 0,
-        }
+        Self::default()
     }
 }
 

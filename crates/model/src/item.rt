@@ -18,8 +18,7 @@ impl Item {
         ensures { result ≡ inside self.now }
     {
         match self {
-            Item::Plus(message) => *message,
-            Item::Minus(message) => *message,
+            Item::Plus(message) | Item::Minus(message) => *message,
         }
     }
 }
