@@ -5,6 +5,7 @@ ghost use Rattle.bus.specs.Reactions.{Rule};
 
 use bus::{Message, Sends, Words};
 
+// `load` and `words` are its own calls: with `From` and `Into` each board would say the same, and need them beside.
 pub trait Board: Copy {
     // Its four words.
     ghost state: { Self → Words };

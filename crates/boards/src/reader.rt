@@ -6,6 +6,8 @@ ghost use Rattle.boards.specs.Reader.{reader_state, reader_rule};
 use super::board::Board;
 use bus::{CARD, INQUIRY, Message, Send, Sends, VERDICT, Words};
 
+// The modes are numbers, and no enum: `load` takes any four words, and `words` tells them again as they were.
+
 // The mode in which it takes a card.
 const READY: u32 = 0;
 

@@ -1,4 +1,5 @@
 // The kinds of messages that boards know, and the source that is no board.
+// Numbers, and no enum: messages of every other kind travel too, and boards take no notice of them.
 ghost use Rattle.std.specs.Prelude.{◌≡◌};
 ghost use Rattle.bus.specs.Kinds.{tick, card, inquiry, verdict, beat, outside};
 

@@ -15,7 +15,8 @@ impl TotalOrder for Message {
     }
 }
 
-// By the message's number, then the cause, then the message.
+// By the message's number, then the cause, then the message: not the order of the fields, so it is not derived.
+// With `<` over three-tuples no proof closed.
 impl TotalOrder for Sent {
     ghost earlier = { sent_before };
 

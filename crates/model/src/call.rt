@@ -1,4 +1,6 @@
 // What a running bench can be asked to do.
+// Not one generic enum with the call of a schedule: to the definitions both would be one type, and a schedule's call
+// whose lines were not cut to what the bench commits at once could pass for one of the bench.
 #[derive(Clone, Copy)]
 pub enum Call {
     // A message from outside, a stimulus, joins transit.

@@ -8,6 +8,7 @@ use playing::play;
 use std::alloc::Global;
 
 // What is answered where there is no memory for the listing, or it does not fit the output.
+// A number, since the C interface has no `Option`.
 const NOTHING: usize = usize::MAX;
 
 // Writes the listing of a schedule to the front of the output, and answers its length. Where that is not possible

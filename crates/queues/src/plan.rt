@@ -6,6 +6,7 @@ ghost use Rattle.queues.specs.Arrivals.{plan_of};
 use model::Item;
 
 // How many events stay, whether there is no place for the arrival, how many messages are recalled, and how many events are undone.
+// `full` stands beside the counts, not an `Err` in their place: they are told of a full board too.
 #[derive(Clone, Copy)]
 pub struct Plan {
     pub stay: usize,

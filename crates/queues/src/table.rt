@@ -19,7 +19,8 @@ pub struct Table {
     pub entries: [BoardQueues; 8],
 }
 
-// The lesser of a board's first standing message and of those behind it.
+// The lesser of a board's first standing message and of those behind it. Not `rows::lesser`: fronts are compared by
+// their messages alone, so that they have no total order.
 fn nearer_front(board: usize, first: Option<Message>, rest: Option<Front>) -> Option<Front>
     ensures { result ≡ nearer_front board first rest }
 {

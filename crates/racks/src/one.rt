@@ -13,6 +13,7 @@ pub struct One<S: Saver> {
     pub saver: S,
 }
 
+// Each call asks for the address: a method that lends the saver out would need a clause of its own on what is lent.
 impl<S: Saver> Rack for One<S> {
     ghost rules = { S.Saver.rule ∷ [] };
 

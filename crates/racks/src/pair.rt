@@ -31,6 +31,7 @@ fn side_of<L: Rack>(address: u8) -> Side
     }
 }
 
+// Each call goes to its side: the sides have two types, so one function over closures would take two closures a call.
 impl<L: Rack, R: Rack> Rack for Pair<L, R> {
     ghost rules = { L.Rack.rules ++ R.Rack.rules };
 

@@ -1,4 +1,5 @@
 // Changes of a row: each answers the row's new count, and leaves what is behind the new row as it was.
+// They work in memory that the caller lends, with its count, so that no row needs a heap; `Row` keeps both together.
 ghost use Rattle.std.specs.Prelude.{◌≡◌, length, take, drop};
 ghost use Rattle.rows.specs.Rows.{in_front, without, put_answer, put_memory};
 

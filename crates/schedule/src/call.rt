@@ -6,7 +6,7 @@ ghost use Rattle.schedule.specs.Faults.{call_fault};
 
 use crate::number::{CutShort, read_number};
 
-// What a schedule can ask of the bench.
+// What a schedule can ask of the bench. The bench's own call is a type of its own, so that neither passes for the other.
 #[derive(Clone, Copy)]
 pub enum Call {
     // A message from outside.

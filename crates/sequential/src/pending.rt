@@ -1,4 +1,5 @@
 // The pending messages, which lie in front of a memory: the next one, one less, and more.
+// The memory is lent, as long as the caller likes, so that a run allocates nothing.
 ghost use Rattle.std.specs.Prelude.{◌≡◌, ◌+◌, ◌≤◌, ◌++◌, length, take};
 ghost use Rattle.rows.specs.Rows.{without_one, in_front};
 ghost use Rattle.bus.specs.Order.{message_before};
