@@ -25,6 +25,7 @@ pub fn list(heap: Global, bytes: &[u8]) -> Result<String, AllocError>
     ensures { IfOk result (λ t. string_bytes t ≡ listed bytes.now) }
 {
     let mut text = String::new(heap);
+    // the arms are those of `reference` and `play`: one function for all would take the first arm as a closure over the text
     match read(heap, bytes) {
         Ok(schedule) => {
             writeln!(text, "end {}", schedule.end)?;

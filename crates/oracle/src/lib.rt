@@ -23,6 +23,7 @@ pub fn reference_log(heap: Global, bytes: &[u8]) -> Result<String, AllocError>
     ensures nothing_comes_after_the_end { NothingComesAfterTheEnd bytes.now }
 {
     let mut text = String::new(heap);
+    // the arms are those of `list` and `play`: one function for all would take the first arm as a closure over the text
     match read(heap, bytes) {
         Ok(schedule) => add_run(heap, &mut text, schedule.end, &schedule.calls)?,
         Err(ReadError::Faulty(fault)) => writeln!(text, "{fault}")?,

@@ -33,6 +33,7 @@ pub fn play(heap: Global, bytes: &[u8]) -> Result<String, AllocError>
     ensures lines_are_the_sequential_log { LinesAreTheSequentialLog bytes.now }
 {
     let mut text = String::new(heap);
+    // the arms are those of `list` and `reference`: one function for all would take the first arm as a closure over the text
     match read(heap, bytes) {
         Ok(schedule) => add_schedule(heap, &mut text, &schedule)?,
         Err(ReadError::Faulty(fault)) => writeln!(text, "{fault}")?,

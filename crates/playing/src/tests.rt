@@ -3,6 +3,7 @@ use crate::play;
 use std::process::Abort;
 use std::test::Fail;
 
+// Each crate of texts has this helper: one for all would be a crate below them, for tests alone.
 fn expect(rt: &(impl Abort + AllocGlobal), bytes: &[u8], printed: &str) -> Result<(), Fail> {
     let text = play(rt.alloc(), bytes)?;
     assert_eq!(rt; text.as_str(), printed);
