@@ -22,18 +22,16 @@ impl Origin {
         ensures { result ≡ one_addressed self.now.boards self.now.end self.now.source self.now.time number send.now }
     {
         let time = u64::from(self.time) + 1 + u64::from(send.lag);
-        if send.address < self.boards && time <= u64::from(self.end) {
-            Some(Message {
-                time: time as u32,
-                source: self.source,
-                number,
-                destination: send.address,
-                kind: send.kind,
-                payload: send.payload,
-            })
-        } else {
-            None
-        }
+        let arrives = send.address < self.boards && time <= u64::from(self.end);
+        arrives.then(|| Message {
+            // the end time fits, and so does what is not after it
+            time: time as u32,
+            source: self.source,
+            number,
+            destination: send.address,
+            kind: send.kind,
+            payload: send.payload,
+        })
     }
 
     // All sends, numbered from this number on; one that is dropped takes no number. After the last number of 32 bits comes 0.

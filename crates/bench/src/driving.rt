@@ -29,6 +29,7 @@ pub fn drive<R: Rack>(
     let played = &calls[..calls.len().min(outcomes.len()).min(log.len())];
     let mut bench = setup.start();
     let mut lines = 0;
+    // outcomes by index: of what is written behind `zip` over `iter_mut` a proof knows nothing
     for (i, call) in played.iter().enumerate() {
         let outcome = bench.perform(call, &mut log[lines..]);
         lines += outcome.lines();

@@ -41,6 +41,7 @@ fn packed_size(lines: &[u8]) -> Result<usize, PackError>
         if size > MOST_BYTES {
             return Err(PackError::TooLong);
         }
+        // no iterator counts the lines: where the next one begins is known when this one is read
         line += 1;
         rest = after;
     }
