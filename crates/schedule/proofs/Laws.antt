@@ -1,6 +1,8 @@
 -- What the layout's writer and the rules of the faults have to do with each other.
-use Rattle.std.proofs.Common.{◌≡◌, ℕ, ◌+◌, ◌-◌, ◌^◌, ◌<◌, ◌≤◌, cond, ltb, List, [], ◌∷◌, ◌++◌, length, Some, None, Option, unwrap_or, sym, refl, ap, ◌∙◌, subst, append_assoc, append-nil, add-zero, arith, length-append}
+use Rattle.std.proofs.Common.{◌≡◌, ℕ, ◌+◌, ◌-◌, ◌^◌, ◌<◌, ◌≤◌, cond, ltb, List, [], ◌∷◌, ◌++◌, length, get_or, take, drop, Some, None, Ok, Err, Result, Option, unwrap_or, sym, refl, ap, ◌∙◌, subst, append_assoc, append-nil, add-zero, arith, length-append}
 use Rattle.std.specs.List.{flat_map, All}
+use Rattle.std.proofs.lemmas.List.{flat_map_more, take_rest}
+use Rattle.std.proofs.lemmas.List.Elements.{All-push}
 use Rattle.std.proofs.lemmas.Bool.{le-ltb, cond-false}
 use Rattle.schedule.specs.declared.call.CallFault.{CallFault}
 use Rattle.schedule.specs.declared.call.CallFault.TheVariants.{Number}
@@ -8,7 +10,7 @@ use Rattle.schedule.specs.declared.file.Fault.{Fault}
 use Rattle.schedule.specs.declared.call.Call.{Call}
 use Rattle.schedule.specs.declared.call.Call.TheVariants.{Offer, Deliver, Run, Outlook, Commit}
 use Rattle.schedule.specs.Layout.{two, four, bytes_of, Within, encode, Follows}
-use Rattle.schedule.specs.Faults.{size, call_fault, placed, calls_fault, header_fault, fault_of}
+use Rattle.schedule.specs.Faults.{size, call_fault, placed, placed_result, calls_fault, header_fault, fault_of}
 
 -- what is skipped is no fault
 skips : (numbers : List ℕ) (offset : ℕ) (rest : List ℕ) → calls_fault offset (length numbers) (numbers ++ rest) ≡ calls_fault (offset + length numbers) 0 rest
@@ -70,5 +72,30 @@ pub record Sofar (bytes : List ℕ) (end : ℕ) (calls : List Call) (rest : List
   pub fault : fault_of bytes ≡ calls_fault (length bytes - length rest) 0 rest
   pub left : length rest ≤ length bytes
 
-pub done : (bytes : List ℕ) (end : ℕ) (calls : List Call) (rest : List ℕ) → Sofar bytes end calls rest → rest ≡ [] → Follows bytes end calls
-done bytes end calls rest h e = record { laid = h.laid ∙ ap (λ l. encode end calls ++ l) e ∙ append-nil _; small = h.small; end_within = h.end_within; within = h.within }
+pub one_more : (bytes : List ℕ) (end : ℕ) (calls : List Call) (call : Call) (rest after : List ℕ) → Sofar bytes end calls rest → rest ≡ bytes_of call ++ after → Within call → Sofar bytes end (calls ++ call ∷ []) after
+one_more bytes end calls call rest after h opened fits =
+    let left = h.left in
+    let long : length rest ≡ length (bytes_of call) + length after = ap length opened ∙ length-append (bytes_of call) after in
+    let at : length bytes - length rest + length (bytes_of call) ≡ length bytes - length after = omega arith in
+    record {
+      laid = h.laid ∙ ap (λ l. encode end calls ++ l) opened ∙ sym (append_assoc (encode end calls) (bytes_of call) after) ∙ ap (λ l. l ++ after) (flat_map_more bytes_of (encode end []) calls call);
+      small = h.small;
+      end_within = h.end_within;
+      within = All-push Within calls call h.within fits;
+      fault = h.fault ∙ ap (calls_fault (length bytes - length rest) 0) opened ∙ call_passes call (length bytes - length rest) after ∙ ap (λ n. calls_fault n 0 after) at;
+      left = omega arith;
+    }
+
+pub done : (bytes : List ℕ) (end : ℕ) (calls : List Call) (rest : List ℕ) → Sofar bytes end calls rest → length rest ≡ 0 → Follows bytes end calls
+done bytes end calls [] h e = record { laid = h.laid ∙ append-nil _; small = h.small; end_within = h.end_within; within = h.within }
+done bytes end calls (b ∷ rest) h e = absurd (omega arith)
+
+-- a pattern that takes one byte
+pub opens_1 : (s : List ℕ) → 1 ≤ length s → s ≡ get_or s 0 0 ∷ take (length s - 1) (drop 1 s)
+opens_1 [] h = absurd (omega arith)
+opens_1 (a ∷ s) h = ap (λ l. a ∷ l) (sym (take_rest (a ∷ s) 1))
+
+-- what a place was added to, if it is no fault
+pub unplaced : {T : Type 0} (at : ℕ) (x : T) (r : Result T CallFault) → Ok x ≡ placed_result at r → r ≡ Ok x
+unplaced at x (Ok value) e = cc
+unplaced at x (Err fault) e = cc

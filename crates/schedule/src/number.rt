@@ -64,6 +64,7 @@ impl LittleEndian for u32 {
     }
 }
 
+// The number that the bytes open with, and the bytes behind it.
 pub fn read_number<N: LittleEndian>(bytes: &[u8]) -> Result<(N, &[u8]), CutShort>
     ensures { MatchResult result (λ x. (bytes.now ≡ N.layout x.0 ++ x.1.now) × N.Fits x.0) (λ _. length bytes.now < N.size) }
 {

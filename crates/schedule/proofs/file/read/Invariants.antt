@@ -3,8 +3,8 @@ use Rattle.std.proofs.Common.{length, vec_items}
 use Rattle.schedule.proofs.Laws.{Sofar}
 use Rattle.schedule.proofs.file.read.Given as goal
 
-abbrev pub invariant-loop-calls : goal.invariant-loop-calls
-invariant-loop-calls l = Sofar l.bytes l.end (vec_items l.calls) l.rest
+abbrev pub invariant-loop-rest : goal.invariant-loop-rest
+invariant-loop-rest l = Sofar l.bytes l.end (vec_items l.calls) l.rest
 
-abbrev pub decreases-loop-calls : goal.decreases-loop-calls
-decreases-loop-calls l = length l.rest
+abbrev pub decreases-loop-rest : goal.decreases-loop-rest
+decreases-loop-rest l = length l.rest
