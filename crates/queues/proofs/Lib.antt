@@ -8,3 +8,4 @@ pub mod Boards
 pub mod Outlooks
 pub mod Joins
 pub mod Same
+pub mod Fronts

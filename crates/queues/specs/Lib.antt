@@ -5,3 +5,4 @@ pub mod Entries
 pub mod Arrivals
 pub mod Outlooks
 pub mod Transits
+pub mod Fronts

@@ -1,12 +1,14 @@
 // The queues of the eight boards, and what is read of one of them by its address.
-ghost use Rattle.std.specs.Prelude.{◌≡◌, map, drop, replicate};
+ghost use Rattle.std.specs.Prelude.{◌≡◌, map, drop, replicate, None};
+ghost use Rattle.std.specs.List.{fold, enumerate_from};
 ghost use Rattle.model.specs.State.{no_queues, issued, sends_of, flat};
 ghost use Rattle.model.specs.Outlook.{open_and_early};
-ghost use Rattle.model.specs.Lines.{nearer_front, soonest};
+ghost use Rattle.model.specs.Lines.{front_of, soonest};
 ghost use Rattle.queues.specs.Entries.{queues_of, first_message, boards_in, board_in};
 ghost use Rattle.queues.specs.Arrivals.{plan_of};
 ghost use Rattle.queues.specs.Memory.{messages_of};
 ghost use Rattle.queues.specs.Outlooks.{least_onto};
+ghost use Rattle.queues.specs.Fronts.{sooner};
 
 use crate::board::BoardQueues;
 use crate::plan::Plan;
@@ -19,30 +21,26 @@ pub struct Table {
     pub entries: [BoardQueues; 8],
 }
 
-// The lesser of a board's first standing message and of those behind it. Not `rows::lesser`: fronts are compared by
+// The front so far, or that of a later board, if its message is before. Not `rows::lesser`: fronts are compared by
 // their messages alone, so that they have no total order.
-fn nearer_front(board: usize, first: Option<Message>, rest: Option<Front>) -> Option<Front>
-    ensures { result ≡ nearer_front board first rest }
+fn sooner(best: Option<Front>, board: usize, first: Option<Message>) -> Option<Front>
+    ensures { result ≡ sooner best board first }
 {
-    let Some(message) = first else {
-        return rest;
-    };
-    match rest {
-        Some(front) if front.message.before(&message) => rest,
-        _ => Some(Front { board, message }),
+    match (best, first) {
+        (best, None) => best,
+        (Some(front), Some(message)) if !message.before(&front.message) => Some(front),
+        (_, Some(message)) => Some(Front { board, message }),
     }
 }
 
-// The least first standing message of some boards.
+// The fronts of some boards, one after the other.
 fn soonest_of(entries: &[BoardQueues]) -> Option<Front>
-    ensures { result ≡ soonest 0 (map queues_of entries.now) }
+    ensures { result ≡ fold (λ best p. sooner best p.0 (front_of (queues_of p.1))) None (enumerate_from 0 entries.now) }
 {
-    let mut best = None;
-    // by number, since no proof closed for `rfold` over `enumerate`: the search does not follow what it yields from the back
-    for i in (0..entries.len()).rev() {
-        best = nearer_front(i, entries[i].front(), best);
-    }
-    best
+    entries.iter().enumerate().fold(
+        None,
+        |best, (board, entry)| sooner(best, board, entry.front()),
+    )
 }
 
 impl Table {
