@@ -4,7 +4,7 @@ use Rattle.std.proofs.Common.{sym, ap, ◌∙◌, arith, length-drop, length-app
 use Rattle.std.proofs.Math.ListN.{get_or-append}
 use Rattle.std.proofs.lemmas.Bool.{cond-true, lt-ltb, le-leb}
 use Rattle.std.specs.List.{range_with_len}
-use Rattle.std.proofs.lemmas.List.FromFn.{length-map-range_with_len, get_or-map-range_with_len, take-map-range_with_len, map-range_with_len_more}
+use Rattle.std.proofs.lemmas.List.FromFn.{length-map-range_with_len, get_or-map-range_with_len, map-range_with_len_more}
 use Rattle.std.proofs.lemmas.List.{take_more, take_all, take-take, take-append-le, drop-append-le, drop-drop, drop-take, get_or-drop, get_or-take, get_or-append_right, ext_get_or}
 use Rattle.bus.specs.declared.Message.{Message}
 use Rattle.bus.specs.declared.Words.{Words}
@@ -65,28 +65,17 @@ pushed n xs x lt = take_all n (xs ++ x ∷ []) (omega (arith, length-append xs (
 pub one_more : {X : Type 0} (n : ℕ) (xs xs' : List X) (x : X) → length xs < n → xs' ≡ take n (xs ++ x ∷ []) → length xs' ≡ length xs + 1
 one_more n xs xs' x lt e = ap length (e ∙ pushed n xs x lt) ∙ length-append xs (x ∷ [])
 
--- two tables with the same entries
-map_same : (f f' : ℕ → Words) (a b n : ℕ) → ((k : ℕ) → k < n → f' (b + k) ≡ f (a + k)) → map f' (range_with_len b n) ≡ map f (range_with_len a n)
-map_same f f' a b n same =
-    ext_get_or zeros (map f' (range_with_len b n)) (map f (range_with_len a n))
-    (length-map-range_with_len f' b n ∙ sym (length-map-range_with_len f a n))
-    (λ k lt.
-    let lt' : k < n = omega (arith, length-map-range_with_len f' b n) in
-    get_or-map-range_with_len f' b n k (b + k) zeros lt' refl ∙ same k lt' ∙ sym (get_or-map-range_with_len f a n k (a + k) zeros lt' refl))
-
-drop_map_counting : (f : ℕ → Words) (a n m : ℕ) → m ≤ n → drop m (map f (range_with_len a n)) ≡ map f (range_with_len (a + m) (n - m))
-drop_map_counting f a n m le =
+-- a table is the list of its entries
+table : (f : ℕ → Words) (a n : ℕ) (xs : List Words) → n ≡ length xs → ((k : ℕ) → k < n → f (a + k) ≡ get_or xs k zeros) → map f (range_with_len a n) ≡ xs
+table f a n xs e same =
     let long = length-map-range_with_len f a n in
-    ext_get_or zeros (drop m (map f (range_with_len a n))) (map f (range_with_len (a + m) (n - m)))
-    (length-drop m (map f (range_with_len a n)) ∙ ap (λ k. k - m) long ∙ sym (length-map-range_with_len f (a + m) (n - m)))
-    (λ k lt.
-    let lt' : k < n - m = omega (arith, long, length-drop m (map f (range_with_len a n))) in
-    get_or-drop m (map f (range_with_len a n)) k zeros
-    ∙ get_or-map-range_with_len f a n (m + k) (a + m + k) zeros (omega arith) (omega arith)
-    ∙ sym (get_or-map-range_with_len f (a + m) (n - m) k (a + m + k) zeros lt' refl))
+    ext_get_or zeros (map f (range_with_len a n)) xs (long ∙ e)
+    (λ k lt. let lt' : k < n = omega (arith, long) in get_or-map-range_with_len f a n k (a + k) zeros lt' refl ∙ same k lt')
 
-same_lists : (rule : Rule) (xs ys : List Words) (ms ns : List Message) (first : ℕ) → xs ≡ ys → ms ≡ ns → replayed rule xs ms first ≡ replayed rule ys ns first
-same_lists rule xs ys ms ns first e e' = ap (λ zs. replayed rule zs ms first) e ∙ ap (λ zs. replayed rule ys zs first) e'
+-- the words at two places, from the same checkpoint and messages
+same_place : (rule : Rule) (xs ys : List Words) (ms ns : List Message) (i j : ℕ)
+    → slice_index_or xs (i / step) zeros ≡ slice_index_or ys (j / step) zeros → since ms i ≡ since ns j → reached rule xs ms i ≡ reached rule ys ns j
+same_place rule xs ys ms ns i j e e' = ap (λ w. after rule w (since ms i)) e ∙ ap (after rule (slice_index_or ys (j / step) zeros)) e'
 
 module _ (rule : Rule) (checkpoints : List Words) (messages : List Message) (first : ℕ) where
   abbrev row : Row
@@ -94,6 +83,10 @@ module _ (rule : Rule) (checkpoints : List Words) (messages : List Message) (fir
 
   pub replayed_long : length row ≡ length messages - first + 1
   replayed_long = length-map-range_with_len (reached rule checkpoints messages) first (length messages - first + 1)
+
+  replayed_at : (k : ℕ) → k < length row → get_or row k zeros ≡ reached rule checkpoints messages (first + k)
+  replayed_at k lt =
+      get_or-map-range_with_len (reached rule checkpoints messages) first (length messages - first + 1) k (first + k) zeros (omega (arith, replayed_long)) refl
 
   replayed_last : first ≤ length messages → newest row ≡ reached rule checkpoints messages (length messages)
   replayed_last le =
@@ -115,21 +108,22 @@ module _ (rule : Rule) (checkpoints : List Words) (messages : List Message) (fir
       ∙ sym (replayed_last le)
 
   -- one place more, where the checkpoints of the places before it are as they were
-  grown : (checkpoints' : List Words) (m : Message) → first ≤ length messages → follow row < capacity
+  grown : (checkpoints' : List Words) (messages' : List Message) (m : Message) → first ≤ length messages → follow row < capacity
+      → messages' ≡ messages ++ m ∷ []
       → ((i : ℕ) → i ≤ length messages → slice_index_or checkpoints' (i / step) zeros ≡ slice_index_or checkpoints (i / step) zeros)
-      → reached rule checkpoints' (messages ++ m ∷ []) (length messages + 1) ≡ (rule (newest row) m).words
-      → replayed rule checkpoints' (messages ++ m ∷ []) first ≡ row_taken rule row m
-  grown checkpoints' m le few kept new =
+      → reached rule checkpoints' messages' (length messages + 1) ≡ (rule (newest row) m).words
+      → replayed rule checkpoints' messages' first ≡ row_taken rule row m
+  grown checkpoints' messages' m le few push kept new =
       let n : ℕ = length messages - first + 1 in
-      let f = reached rule checkpoints messages in
-      let f' = reached rule checkpoints' (messages ++ m ∷ []) in
-      let more : length (messages ++ m ∷ []) - first + 1 ≡ n + 1 = omega (arith, length-append messages (m ∷ [])) in
+      let f' = reached rule checkpoints' messages' in
+      let more : length messages' - first + 1 ≡ n + 1 = omega (arith, ap length push, length-append messages (m ∷ [])) in
       ap (λ k. map f' (range_with_len first k)) more
       ∙ map-range_with_len_more f' first n (length messages + 1) (omega arith)
-      ∙ ap (λ xs. xs ++ f' (length messages + 1) ∷ []) (map_same f f' first first n (λ k lt.
-      ap (after rule (slice_index_or checkpoints' ((first + k) / step) zeros))
-      (since_same (messages ++ m ∷ []) messages (first + k) (take-append-le (first + k) messages (m ∷ []) (omega arith)))
-      ∙ ap (λ w. after rule w (since messages (first + k))) (kept (first + k) (omega arith))))
+      ∙ ap (λ xs. xs ++ f' (length messages + 1) ∷ []) (table f' first n row (sym replayed_long) (λ k lt.
+      let i : ℕ = first + k in
+      same_place rule checkpoints' checkpoints messages' messages i i (kept i (omega arith))
+      (since_same messages' messages i (ap (take i) push ∙ take-append-le i messages (m ∷ []) (omega arith)))
+      ∙ sym (replayed_at k (omega (arith, replayed_long)))))
       ∙ ap (λ w. row ++ w ∷ []) new
       ∙ sym (cond-true (has_room row) _ row (lt-ltb (follow row) capacity few))
 
@@ -141,9 +135,8 @@ module _ (rule : Rule) (checkpoints : List Words) (messages : List Message) (fir
       let more : messages' ≡ messages ++ m ∷ [] = push ∙ pushed (capacity + step - 1) messages m (omega (arith, replayed_long)) in
       let un : (n + 1) % step ≢ 0 = omega (arith, ap length more, length-append messages (m ∷ [])) in
       let same : (n + 1) / step ≡ n / step = omega arith in
-      same_lists rule checkpoints _ messages' _ first refl more
-      ∙ grown checkpoints m le few (λ i lt. refl)
-      (ap (after rule (slice_index_or checkpoints ((n + 1) / step) zeros)) (since_push messages m un)
+      grown checkpoints messages' m le few more (λ i lt. refl)
+      (ap (after rule (slice_index_or checkpoints ((n + 1) / step) zeros)) (ap (λ ms. since ms (n + 1)) more ∙ since_push messages m un)
       ∙ after_push rule (slice_index_or checkpoints ((n + 1) / step) zeros) (since messages n) m
       ∙ ap (λ q. (rule (after rule (slice_index_or checkpoints q zeros) (since messages n)) m).words) same
       ∙ ap (λ w. (rule w m).words) (sym (replayed_last le)))
@@ -160,9 +153,10 @@ module _ (rule : Rule) (checkpoints : List Words) (messages : List Message) (fir
       let on : (n + 1) % step ≡ 0 = omega (arith, ap length more, length-append messages (m ∷ [])) in
       let more' : checkpoints' ≡ checkpoints ++ w ∷ [] = push' ∙ pushed (capacity / step + 1) checkpoints w (omega (arith, replayed_long)) in
       let none : q - length checkpoints ≡ 0 = omega arith in
-      same_lists rule checkpoints' _ messages' _ first more' more
-      ∙ grown (checkpoints ++ w ∷ []) m le few (λ i lt. get_or-append checkpoints (w ∷ []) zeros (i / step) (omega arith))
-      (ap (λ r. after rule (slice_index_or (checkpoints ++ w ∷ []) q zeros) (take r (drop (q * step) (messages ++ m ∷ [])))) on
+      grown checkpoints' messages' m le few more
+      (λ i lt. ap (λ xs. get_or xs (i / step) zeros) more' ∙ get_or-append checkpoints (w ∷ []) zeros (i / step) (omega arith))
+      (ap (λ r. after rule (slice_index_or checkpoints' q zeros) (take r (drop (q * step) messages'))) on
+      ∙ ap (λ xs. get_or xs q zeros) more'
       ∙ get_or-append_right checkpoints (w ∷ []) (length checkpoints) q zeros refl (omega arith)
       ∙ ap (λ k. get_or (w ∷ []) k zeros) none
       ∙ e)
@@ -172,16 +166,15 @@ module _ (rule : Rule) (checkpoints : List Words) (messages : List Message) (fir
       → replayed rule checkpoints' messages' first ≡ row_back row n
   replayed_back n checkpoints' messages' le lt cut cut' =
       let p : ℕ = first + n in
-      let f = reached rule checkpoints messages in
-      let f' = reached rule (take (p / step + 1) checkpoints) (take p messages) in
-      let fewer : length (take p messages) - first + 1 ≡ n + 1 = omega (arith, length-take p messages, replayed_long) in
-      same_lists rule checkpoints' _ messages' _ first cut cut'
-      ∙ ap (λ k. map f' (range_with_len first k)) fewer
-      ∙ map_same f f' first first (n + 1) (λ k below.
-      ap (after rule (slice_index_or (take (p / step + 1) checkpoints) ((first + k) / step) zeros))
-      (since_same (take p messages) messages (first + k) (take-take (first + k) p messages (omega arith)))
-      ∙ ap (λ w. after rule w (since messages (first + k))) (get_or-take (p / step + 1) checkpoints ((first + k) / step) zeros (omega arith)))
-      ∙ sym (take-map-range_with_len f first (length messages - first + 1) (n + 1) (omega (arith, replayed_long)))
+      let fewer : length messages' - first + 1 ≡ length (take (n + 1) row) =
+      omega (arith, ap length cut', length-take p messages, length-take (n + 1) row, replayed_long) in
+      table (reached rule checkpoints' messages') first (length messages' - first + 1) (take (n + 1) row) fewer (λ k below.
+      let i : ℕ = first + k in
+      let early : k < n + 1 = omega (arith, ap length cut', length-take p messages, replayed_long) in
+      same_place rule checkpoints' checkpoints messages' messages i i
+      (ap (λ xs. get_or xs (i / step) zeros) cut ∙ get_or-take (p / step + 1) checkpoints (i / step) zeros (omega arith))
+      (since_same messages' messages i (ap (take i) cut' ∙ take-take i p messages (omega arith)))
+      ∙ sym (get_or-take (n + 1) row k zeros early ∙ replayed_at k (omega (arith, replayed_long))))
       ∙ sym (cond-true (has row n) _ row (le-leb n (follow row) lt))
 
   -- what was before the last checkpoint at or before the new start is gone
@@ -191,19 +184,16 @@ module _ (rule : Rule) (checkpoints : List Words) (messages : List Message) (fir
   replayed_forgot n checkpoints' messages' le lt shed shed' =
       let p : ℕ = first + n in
       let q : ℕ = p / step in
-      let f = reached rule checkpoints messages in
-      let f' = reached rule (drop q checkpoints) (drop (q * step) messages) in
-      let fewer : length (drop (q * step) messages) - p % step + 1 ≡ length messages - first + 1 - n = omega (arith, length-drop (q * step) messages, replayed_long) in
-      same_lists rule checkpoints' _ messages' _ (p % step) shed shed'
-      ∙ ap (λ k. map f' (range_with_len (p % step) k)) fewer
-      ∙ map_same f f' p (p % step) (length messages - first + 1 - n) (λ k below.
+      let left : length messages' ≡ length messages - q * step = ap length shed' ∙ length-drop (q * step) messages in
+      let fewer : length messages' - p % step + 1 ≡ length (drop n row) = omega (arith, left, length-drop n row, replayed_long) in
+      table (reached rule checkpoints' messages') (p % step) (length messages' - p % step + 1) (drop n row) fewer (λ k below.
       let i : ℕ = p % step + k in
-      let there : q + i / step ≡ (q * step + i) / step = omega arith in
-      let place : q * step + i ≡ p + k = omega arith in
-      ap (after rule (slice_index_or (drop q checkpoints) (i / step) zeros)) (since_drop messages q i)
-      ∙ ap (λ w. after rule w (since messages (q * step + i))) (get_or-drop q checkpoints (i / step) zeros ∙ ap (λ j. get_or checkpoints j zeros) there)
-      ∙ ap f place)
-      ∙ sym (drop_map_counting f first (length messages - first + 1) n (omega (arith, replayed_long)))
+      let there : q + i / step ≡ (first + (n + k)) / step = omega arith in
+      let place : q * step + i ≡ first + (n + k) = omega arith in
+      same_place rule checkpoints' checkpoints messages' messages i (first + (n + k))
+      (ap (λ xs. get_or xs (i / step) zeros) shed ∙ get_or-drop q checkpoints (i / step) zeros ∙ ap (λ j. get_or checkpoints j zeros) there)
+      (ap (λ ms. since ms i) shed' ∙ since_drop messages q i ∙ ap (since messages) place)
+      ∙ sym (get_or-drop n row k zeros ∙ replayed_at (n + k) (omega (arith, left, replayed_long))))
       ∙ sym (cond-true (has row n) _ row (le-leb n (follow row) lt))
 
 -- how long the row is, and a list whose front is gone
