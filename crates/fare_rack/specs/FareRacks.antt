@@ -33,7 +33,7 @@ fare_rows r =
     let reader = r.right.left.saver in
     let ticker = r.right.right.saver in
     held computer.copies
-    ∷ replayed reader_rule reader.checkpoints reader.messages reader.first reader.held
+    ∷ replayed reader_rule (held reader.checkpoints) (held reader.messages) reader.first
     ∷ held ticker.copies
     ∷ []
 

@@ -3,5 +3,3 @@ pub mod Rows
 pub mod Replays
 pub mod Refusals
 pub mod ReplaysLemmas
-pub mod Known
-pub mod Parts

@@ -1,5 +1,5 @@
 -- Words that are reached again from a checkpoint.
-use Rattle.std.specs.Prelude.{ℕ, ◌+◌, ◌*◌, ◌/◌, ◌%◌, List, [], ◌∷◌, map, take, drop, slice_index_or}
+use Rattle.std.specs.Prelude.{ℕ, ◌+◌, ◌-◌, ◌*◌, ◌/◌, ◌%◌, List, [], ◌∷◌, map, length, take, drop, slice_index_or}
 use Rattle.std.specs.List.{range_with_len}
 use Rattle.bus.specs.declared.Message.{Message}
 use Rattle.bus.specs.declared.Words.{Words}
@@ -24,5 +24,5 @@ abbrev pub reached : Rule → List Words → List Message → ℕ → Words
 reached rule checkpoints messages place = after rule (slice_index_or checkpoints (place / step) zeros) (since messages place)
 
 -- the row: the words at each place from the first on
-abbrev pub replayed : Rule → List Words → List Message → ℕ → ℕ → Row
-replayed rule checkpoints messages first held = map (reached rule checkpoints messages) (range_with_len first (held + 1))
+abbrev pub replayed : Rule → List Words → List Message → ℕ → Row
+replayed rule checkpoints messages first = map (reached rule checkpoints messages) (range_with_len first (length messages - first + 1))

@@ -1,17 +1,16 @@
 -- A row whose words are reached again from checkpoints.
-use Rattle.std.specs.Prelude.{◌≡◌, ℕ, ◌+◌, ◌-◌, ◌*◌, ◌/◌, ◌%◌, ◌<◌, ◌≤◌, List, [], ◌∷◌, ◌++◌, map, length, get_or, take, drop, set, Ok, ◌≢◌, slice_index_or, slice_set, refl}
-use Rattle.std.proofs.Common.{sym, ap, ◌∙◌, arith, length-drop}
-use Rattle.std.proofs.Math.Seq.{paste}
+use Rattle.std.specs.Prelude.{◌≡◌, ℕ, ◌+◌, ◌-◌, ◌*◌, ◌/◌, ◌%◌, ◌<◌, ◌≤◌, List, [], ◌∷◌, ◌++◌, map, length, get_or, take, drop, ◌≢◌, slice_index_or, refl}
+use Rattle.std.proofs.Common.{sym, ap, ◌∙◌, arith, length-drop, length-append, length-take}
+use Rattle.std.proofs.Math.ListN.{get_or-append}
+use Rattle.std.proofs.lemmas.Bool.{cond-true, lt-ltb, le-leb}
 use Rattle.std.specs.List.{range_with_len}
-use Rattle.std.proofs.lemmas.List.FromFn.{length-map-range_with_len, get_or-map-range_with_len, take-map-range_with_len, map-range_with_len_more}
-use Rattle.std.proofs.lemmas.List.{get_or-set_same, get_or-set_other, take-set-le, take_more, take_all, take_more_set, drop-set-add, drop-drop, get_or-drop, get_or-take, ext_get_or}
+use Rattle.std.proofs.lemmas.List.FromFn.{length-map-range_with_len, get_or-map-range_with_len, map-range_with_len_more}
+use Rattle.std.proofs.lemmas.List.{take_more, take_all, take-take, take-append-le, drop-append-le, drop-drop, drop-take, get_or-drop, get_or-take, get_or-append_right, ext_get_or}
 use Rattle.bus.specs.declared.Message.{Message}
 use Rattle.bus.specs.declared.Words.{Words}
-use Rattle.bus.specs.Reactions.{Sends, Rule, zeros}
-use Rattle.savers.specs.Rows.{capacity, newest, row_taken, answer_taken, row_back, row_forgot}
+use Rattle.bus.specs.Reactions.{Rule, zeros}
+use Rattle.savers.specs.Rows.{Row, capacity, follow, newest, has_room, has, row_taken, row_back, row_forgot}
 use Rattle.savers.specs.Replays.{step, after, since, reached, replayed}
-use Rattle.savers.specs.Known.{newest_is, takes, answers, goes_back, forgets}
-use Rattle.savers.specs.Parts.{take_pasted, same_parts}
 
 after_push : (rule : Rule) (w : Words) (ms : List Message) (m : Message) → after rule w (ms ++ m ∷ []) ≡ (rule (after rule w ms) m).words
 after_push rule w [] m = refl
@@ -27,160 +26,175 @@ after_more rule w v v' ms i lt e e' =
     e' ∙ ap (λ u. (rule u (slice_index_or ms i no_message)).words) e
     ∙ sym (ap (after rule w) (take_more ms i no_message lt) ∙ after_push rule w (take i ms) (slice_index_or ms i no_message))
 
--- all messages since the checkpoint
-pub after_since : (rule : Rule) (w : Words) (messages : List Message) (p i : ℕ)
-    → length (take (p - p / step * step) (drop (p / step * step) messages)) ≤ i
-    → after rule w (take i (take (p - p / step * step) (drop (p / step * step) messages))) ≡ after rule w (since messages p)
-after_since rule w messages p i le =
-    let rest : p - p / step * step ≡ p % step = omega arith in
-    ap (after rule w) (take_all i (take (p - p / step * step) (drop (p / step * step) messages)) le ∙ ap (λ k. take k (drop (p / step * step) messages)) rest)
+-- the messages since a checkpoint are the end of those before a place
+since_is : (ms : List Message) (i : ℕ) → since ms i ≡ drop (i / step * step) (take i ms)
+since_is ms i =
+    let d : ℕ = i / step * step in
+    let place : d + i % step ≡ i = omega arith in
+    sym (drop-take d (i % step) ms) ∙ ap (λ k. drop d (take k ms)) place
 
--- two tables with the same entries
-map_same : (f f' : ℕ → Words) (a b n : ℕ) → ((k : ℕ) → k < n → f' (b + k) ≡ f (a + k)) → map f' (range_with_len b n) ≡ map f (range_with_len a n)
-map_same f f' a b n same =
-    ext_get_or zeros (map f' (range_with_len b n)) (map f (range_with_len a n))
-    (length-map-range_with_len f' b n ∙ sym (length-map-range_with_len f a n))
-    (λ k lt.
-    let lt' : k < n = omega (arith, length-map-range_with_len f' b n) in
-    get_or-map-range_with_len f' b n k (b + k) zeros lt' refl ∙ same k lt' ∙ sym (get_or-map-range_with_len f a n k (a + k) zeros lt' refl))
+since_same : (xs ys : List Message) (i : ℕ) → take i xs ≡ take i ys → since xs i ≡ since ys i
+since_same xs ys i e = since_is xs i ∙ ap (drop (i / step * step)) e ∙ sym (since_is ys i)
 
-drop_map_counting : (f : ℕ → Words) (a n m : ℕ) → m ≤ n → drop m (map f (range_with_len a n)) ≡ map f (range_with_len (a + m) (n - m))
-drop_map_counting f a n m le =
+since_end : (ms : List Message) → since ms (length ms) ≡ drop (length ms / step * step) ms
+since_end ms = since_is ms (length ms) ∙ ap (drop (length ms / step * step)) (take_all (length ms) ms (omega arith))
+
+since_push : (ms : List Message) (m : Message) → ((length ms + 1) % step ≢ 0) → since (ms ++ m ∷ []) (length ms + 1) ≡ since ms (length ms) ++ m ∷ []
+since_push ms m un =
+    let n : ℕ = length ms in
+    let same : (n + 1) / step ≡ n / step = omega arith in
+    since_is (ms ++ m ∷ []) (n + 1)
+    ∙ ap (drop ((n + 1) / step * step)) (take_all (n + 1) (ms ++ m ∷ []) (omega (arith, length-append ms (m ∷ []))))
+    ∙ ap (λ q. drop (q * step) (ms ++ m ∷ [])) same
+    ∙ drop-append-le (n / step * step) ms (m ∷ []) (omega arith)
+    ∙ ap (λ xs. xs ++ m ∷ []) (sym (since_end ms))
+
+-- the messages since a checkpoint, where those before the q-th checkpoint are gone
+since_drop : (ms : List Message) (q i : ℕ) → since (drop (q * step) ms) i ≡ since ms (q * step + i)
+since_drop ms q i =
+    let rest : i % step ≡ (q * step + i) % step = omega arith in
+    let place : q * step + i / step * step ≡ (q * step + i) / step * step = omega arith in
+    ap (take (i % step)) (drop-drop (i / step * step) (q * step) ms)
+    ∙ ap (λ k. take (i % step) (drop k ms)) place
+    ∙ ap (λ r. take r (drop ((q * step + i) / step * step) ms)) rest
+
+-- one more has room
+pushed : {X : Type 0} (n : ℕ) (xs : List X) (x : X) → length xs < n → take n (xs ++ x ∷ []) ≡ xs ++ x ∷ []
+pushed n xs x lt = take_all n (xs ++ x ∷ []) (omega (arith, length-append xs (x ∷ [])))
+
+pub one_more : {X : Type 0} (n : ℕ) (xs xs' : List X) (x : X) → length xs < n → xs' ≡ take n (xs ++ x ∷ []) → length xs' ≡ length xs + 1
+one_more n xs xs' x lt e = ap length (e ∙ pushed n xs x lt) ∙ length-append xs (x ∷ [])
+
+-- a table is the list of its entries
+table : (f : ℕ → Words) (a n : ℕ) (xs : List Words) → n ≡ length xs → ((k : ℕ) → k < n → f (a + k) ≡ get_or xs k zeros) → map f (range_with_len a n) ≡ xs
+table f a n xs e same =
     let long = length-map-range_with_len f a n in
-    ext_get_or zeros (drop m (map f (range_with_len a n))) (map f (range_with_len (a + m) (n - m)))
-    (length-drop m (map f (range_with_len a n)) ∙ ap (λ k. k - m) long ∙ sym (length-map-range_with_len f (a + m) (n - m)))
-    (λ k lt.
-    let lt' : k < n - m = omega (arith, long, length-drop m (map f (range_with_len a n))) in
-    get_or-drop m (map f (range_with_len a n)) k zeros
-    ∙ get_or-map-range_with_len f a n (m + k) (a + m + k) zeros (omega arith) (omega arith)
-    ∙ sym (get_or-map-range_with_len f (a + m) (n - m) k (a + m + k) zeros lt' refl))
+    ext_get_or zeros (map f (range_with_len a n)) xs (long ∙ e)
+    (λ k lt. let lt' : k < n = omega (arith, long) in get_or-map-range_with_len f a n k (a + k) zeros lt' refl ∙ same k lt')
 
--- a message written at place p changes nothing up to p
-since_kept : (messages : List Message) (p i : ℕ) (m : Message) → i ≤ p → since (slice_set messages p m) i ≡ since messages i
-since_kept messages p i m le =
-    let d : ℕ = i / step * step in
-    let split : p ≡ d + (p - d) = omega arith in
-    ap (λ k. take (i % step) (drop d (slice_set messages k m))) split
-    ∙ ap (take (i % step)) (drop-set-add d messages (p - d) m)
-    ∙ take-set-le (i % step) (drop d messages) (p - d) m (omega arith)
+-- the words at two places, from the same checkpoint and messages
+same_place : (rule : Rule) (xs ys : List Words) (ms ns : List Message) (i j : ℕ)
+    → slice_index_or xs (i / step) zeros ≡ slice_index_or ys (j / step) zeros → since ms i ≡ since ns j → reached rule xs ms i ≡ reached rule ys ns j
+same_place rule xs ys ms ns i j e e' = ap (λ w. after rule w (since ms i)) e ∙ ap (after rule (slice_index_or ys (j / step) zeros)) e'
 
-since_grown : (messages : List Message) (p : ℕ) (m : Message) → p < length messages → ((p + 1) % step ≢ 0)
-    → since (slice_set messages p m) (p + 1) ≡ since messages p ++ m ∷ []
-since_grown messages p m lt un =
-    let d : ℕ = p / step * step in
-    let split : p ≡ d + p % step = omega arith in
-    let rest : (p + 1) % step ≡ p % step + 1 = omega arith in
-    let same : (p + 1) / step ≡ p / step = omega arith in
-    ap (λ r. take r (drop ((p + 1) / step * step) (slice_set messages p m))) rest
-    ∙ ap (λ q. take (p % step + 1) (drop (q * step) (slice_set messages p m))) same
-    ∙ ap (λ k. take (p % step + 1) (drop d (slice_set messages k m))) split
-    ∙ ap (take (p % step + 1)) (drop-set-add d messages (p % step) m)
-    ∙ take_more_set (drop d messages) (p % step) m (omega (arith, length-drop d messages))
+module _ (rule : Rule) (checkpoints : List Words) (messages : List Message) (first : ℕ) where
+  abbrev row : Row
+  row = replayed rule checkpoints messages first
 
--- the messages since a checkpoint, where those from the q-th checkpoint on were moved to the front, n of them
-since_moved : (messages messages' : List Message) (q n i : ℕ) → i ≤ n → take n messages' ≡ take n (drop (q * step) messages)
-    → since messages' i ≡ since messages (q * step + i)
-since_moved messages messages' q n i le e =
-    let d : ℕ = i / step * step in
-    let rest : (q * step + i) % step ≡ i % step = omega arith in
-    let place : q * step + d ≡ (q * step + i) / step * step = omega arith in
-    same_parts messages' (drop (q * step) messages) n d (i % step) (omega arith) e
-    ∙ ap (take (i % step)) (drop-drop d (q * step) messages)
-    ∙ ap (λ k. take (i % step) (drop k messages)) place
-    ∙ ap (λ r. take r (drop ((q * step + i) / step * step) messages)) (sym rest)
+  pub replayed_long : length row ≡ length messages - first + 1
+  replayed_long = length-map-range_with_len (reached rule checkpoints messages) first (length messages - first + 1)
 
--- the same of the checkpoints, of which c were moved
-checkpoint_moved : (checkpoints checkpoints' : List Words) (q c i : ℕ) → i / step < c → take c checkpoints' ≡ take c (drop q checkpoints)
-    → slice_index_or checkpoints' (i / step) zeros ≡ slice_index_or checkpoints ((q * step + i) / step) zeros
-checkpoint_moved checkpoints checkpoints' q c i lt e =
-    let place : q + i / step ≡ (q * step + i) / step = omega arith in
-    sym (get_or-take c checkpoints' (i / step) zeros lt)
-    ∙ ap (λ xs. get_or xs (i / step) zeros) e
-    ∙ get_or-take c (drop q checkpoints) (i / step) zeros lt
-    ∙ get_or-drop q checkpoints (i / step) zeros
-    ∙ ap (λ k. get_or checkpoints k zeros) place
+  replayed_at : (k : ℕ) → k < length row → get_or row k zeros ≡ reached rule checkpoints messages (first + k)
+  replayed_at k lt =
+      get_or-map-range_with_len (reached rule checkpoints messages) first (length messages - first + 1) k (first + k) zeros (omega (arith, replayed_long)) refl
 
-module _ (rule : Rule) (checkpoints : List Words) (messages : List Message) (first held : ℕ) where
-  pub replayed_long : length (replayed rule checkpoints messages first held) ≡ held + 1
-  replayed_long = length-map-range_with_len (reached rule checkpoints messages) first (held + 1)
+  replayed_last : first ≤ length messages → newest row ≡ reached rule checkpoints messages (length messages)
+  replayed_last le =
+      get_or-map-range_with_len (reached rule checkpoints messages) first (length messages - first + 1) (follow row) (length messages) zeros
+      (omega (arith, replayed_long)) (omega (arith, replayed_long))
 
-  replayed_last : get_or (replayed rule checkpoints messages first held) held zeros ≡ reached rule checkpoints messages (first + held)
-  replayed_last = get_or-map-range_with_len (reached rule checkpoints messages) first (held + 1) held (first + held) zeros (omega arith) refl
+  -- the last words, once all messages since the last checkpoint were taken again
+  pub replayed_newest : (count i : ℕ) (ms : List Message) → first ≤ length messages → length checkpoints ≡ length messages / step + 1
+      → count ≡ length checkpoints → ms ≡ messages
+      → length (take (length ms - (count - 1) * step) (drop ((count - 1) * step) ms)) ≤ i
+      → after rule (slice_index_or checkpoints (count - 1) zeros) (take i (take (length ms - (count - 1) * step) (drop ((count - 1) * step) ms))) ≡ newest row
+  replayed_newest count i ms le marked counted e all =
+      let d : ℕ = (count - 1) * step in
+      let last : count - 1 ≡ length messages / step = omega arith in
+      ap (after rule (slice_index_or checkpoints (count - 1) zeros))
+      (take_all i _ all ∙ take_all (length ms - d) (drop d ms) (omega (arith, length-drop d ms)) ∙ ap (drop d) e)
+      ∙ ap (λ q. after rule (slice_index_or checkpoints q zeros) (drop (q * step) messages)) last
+      ∙ ap (after rule (slice_index_or checkpoints (length messages / step) zeros)) (sym (since_end messages))
+      ∙ sym (replayed_last le)
 
-  pub replayed_newest : reached rule checkpoints messages (first + held) ≡ newest (replayed rule checkpoints messages first held)
-  replayed_newest = sym (newest_is (replayed rule checkpoints messages first held) held replayed_long ∙ replayed_last)
-
-  pub replayed_back : (n : ℕ) → n ≤ held → replayed rule checkpoints messages first n ≡ row_back (replayed rule checkpoints messages first held) n
-  replayed_back n le =
-      sym (goes_back (replayed rule checkpoints messages first held) held replayed_long n le
-      ∙ take-map-range_with_len (reached rule checkpoints messages) first (held + 1) (n + 1) (omega arith))
-
-  pub replayed_answers : (m : Message) (s : Sends) → held < capacity → s ≡ (rule (reached rule checkpoints messages (first + held)) m).sends
-      → Ok s ≡ answer_taken rule (replayed rule checkpoints messages first held) m
-  replayed_answers m s lt e =
-      ap Ok (e ∙ ap (λ u. (rule u m).sends) (sym replayed_last))
-      ∙ sym (answers (replayed rule checkpoints messages first held) held replayed_long rule m lt)
-
-  -- one place more, where the places before it are as they were
-  grown : (checkpoints' : List Words) (messages' : List Message) (m : Message) → held < capacity
-      → ((k : ℕ) → k < held + 1 → reached rule checkpoints' messages' (first + k) ≡ reached rule checkpoints messages (first + k))
-      → reached rule checkpoints' messages' (first + held + 1) ≡ (rule (reached rule checkpoints messages (first + held)) m).words
-      → replayed rule checkpoints' messages' first (held + 1) ≡ row_taken rule (replayed rule checkpoints messages first held) m
-  grown checkpoints' messages' m lt same new =
-      let f = reached rule checkpoints messages in
+  -- one place more, where the checkpoints of the places before it are as they were
+  grown : (checkpoints' : List Words) (messages' : List Message) (m : Message) → first ≤ length messages → follow row < capacity
+      → messages' ≡ messages ++ m ∷ []
+      → ((i : ℕ) → i ≤ length messages → slice_index_or checkpoints' (i / step) zeros ≡ slice_index_or checkpoints (i / step) zeros)
+      → reached rule checkpoints' messages' (length messages + 1) ≡ (rule (newest row) m).words
+      → replayed rule checkpoints' messages' first ≡ row_taken rule row m
+  grown checkpoints' messages' m le few push kept new =
+      let n : ℕ = length messages - first + 1 in
       let f' = reached rule checkpoints' messages' in
-      map-range_with_len_more f' first (held + 1) (first + held + 1) (omega arith)
-      ∙ ap (λ xs. xs ++ f' (first + held + 1) ∷ []) (map_same f f' first first (held + 1) same)
-      ∙ ap (λ w. replayed rule checkpoints messages first held ++ w ∷ []) (new ∙ ap (λ u. (rule u m).words) (sym replayed_last))
-      ∙ sym (takes (replayed rule checkpoints messages first held) held replayed_long rule m lt)
+      let more : length messages' - first + 1 ≡ n + 1 = omega (arith, ap length push, length-append messages (m ∷ [])) in
+      ap (λ k. map f' (range_with_len first k)) more
+      ∙ map-range_with_len_more f' first n (length messages + 1) (omega arith)
+      ∙ ap (λ xs. xs ++ f' (length messages + 1) ∷ []) (table f' first n row (sym replayed_long) (λ k lt.
+      let i : ℕ = first + k in
+      same_place rule checkpoints' checkpoints messages' messages i i (kept i (omega arith))
+      (since_same messages' messages i (ap (take i) push ∙ take-append-le i messages (m ∷ []) (omega arith)))
+      ∙ sym (replayed_at k (omega (arith, replayed_long)))))
+      ∙ ap (λ w. row ++ w ∷ []) new
+      ∙ sym (cond-true (has_room row) _ row (lt-ltb (follow row) capacity few))
 
-  pub taken_between : (m : Message) → first < step → length messages ≡ capacity + step - 1 → held < capacity → ((first + held + 1) % step ≢ 0)
-      → replayed rule checkpoints (slice_set messages (first + held) m) first (held + 1) ≡ row_taken rule (replayed rule checkpoints messages first held) m
-  taken_between m low noted lt un =
-      let p : ℕ = first + held in
-      let same : (p + 1) / step ≡ p / step = omega arith in
-      grown checkpoints (slice_set messages p m) m lt
-      (λ k below. ap (after rule (slice_index_or checkpoints ((first + k) / step) zeros)) (since_kept messages p (first + k) m (omega arith)))
-      (ap (after rule (slice_index_or checkpoints ((p + 1) / step) zeros)) (since_grown messages p m (omega arith) un)
-      ∙ after_push rule (slice_index_or checkpoints ((p + 1) / step) zeros) (since messages p) m
-      ∙ ap (λ q. (rule (after rule (slice_index_or checkpoints q zeros) (since messages p)) m).words) same)
+  pub taken_between : (m : Message) (messages' : List Message) → first < step → first ≤ length messages
+      → follow row < capacity → length messages' % step ≢ 0 → messages' ≡ take (capacity + step - 1) (messages ++ m ∷ [])
+      → replayed rule checkpoints messages' first ≡ row_taken rule row m
+  taken_between m messages' low le few off push =
+      let n : ℕ = length messages in
+      let more : messages' ≡ messages ++ m ∷ [] = push ∙ pushed (capacity + step - 1) messages m (omega (arith, replayed_long)) in
+      let un : (n + 1) % step ≢ 0 = omega (arith, ap length more, length-append messages (m ∷ [])) in
+      let same : (n + 1) / step ≡ n / step = omega arith in
+      grown checkpoints messages' m le few more (λ i lt. refl)
+      (ap (after rule (slice_index_or checkpoints ((n + 1) / step) zeros)) (ap (λ ms. since ms (n + 1)) more ∙ since_push messages m un)
+      ∙ after_push rule (slice_index_or checkpoints ((n + 1) / step) zeros) (since messages n) m
+      ∙ ap (λ q. (rule (after rule (slice_index_or checkpoints q zeros) (since messages n)) m).words) same
+      ∙ ap (λ w. (rule w m).words) (sym (replayed_last le)))
 
-  pub taken_at_checkpoint : (m : Message) (w : Words) → first < step → length checkpoints ≡ capacity / step + 1 → held < capacity → (first + held + 1) % step ≡ 0
-      → w ≡ (rule (reached rule checkpoints messages (first + held)) m).words
-      → replayed rule (slice_set checkpoints ((first + held + 1) / step) w) (slice_set messages (first + held) m) first (held + 1)
-      ≡ row_taken rule (replayed rule checkpoints messages first held) m
-  taken_at_checkpoint m w low marked lt on e =
-      let p : ℕ = first + held in
-      let checkpoints' = set checkpoints ((p + 1) / step) w in
-      grown checkpoints' (slice_set messages p m) m lt
-      (λ k below.
-      ap (after rule (slice_index_or checkpoints' ((first + k) / step) zeros)) (since_kept messages p (first + k) m (omega arith))
-      ∙ ap (λ v. after rule v (since messages (first + k))) (get_or-set_other checkpoints ((p + 1) / step) ((first + k) / step) w zeros (omega arith)))
-      (ap (λ r. after rule (slice_index_or checkpoints' ((p + 1) / step) zeros) (take r (drop ((p + 1) / step * step) (slice_set messages p m)))) on
-      ∙ get_or-set_same checkpoints ((p + 1) / step) w zeros (omega arith)
+  pub taken_at_checkpoint : (m : Message) (w : Words) (checkpoints' : List Words) (messages' : List Message) → first < step → first ≤ length messages
+      → length checkpoints ≡ length messages / step + 1 → follow row < capacity → length messages' % step ≡ 0
+      → messages' ≡ take (capacity + step - 1) (messages ++ m ∷ []) → checkpoints' ≡ take (capacity / step + 1) (checkpoints ++ w ∷ [])
+      → w ≡ (rule (newest row) m).words
+      → replayed rule checkpoints' messages' first ≡ row_taken rule row m
+  taken_at_checkpoint m w checkpoints' messages' low le marked few whole push push' e =
+      let n : ℕ = length messages in
+      let q : ℕ = (n + 1) / step in
+      let more : messages' ≡ messages ++ m ∷ [] = push ∙ pushed (capacity + step - 1) messages m (omega (arith, replayed_long)) in
+      let on : (n + 1) % step ≡ 0 = omega (arith, ap length more, length-append messages (m ∷ [])) in
+      let more' : checkpoints' ≡ checkpoints ++ w ∷ [] = push' ∙ pushed (capacity / step + 1) checkpoints w (omega (arith, replayed_long)) in
+      let none : q - length checkpoints ≡ 0 = omega arith in
+      grown checkpoints' messages' m le few more
+      (λ i lt. ap (λ xs. get_or xs (i / step) zeros) more' ∙ get_or-append checkpoints (w ∷ []) zeros (i / step) (omega arith))
+      (ap (λ r. after rule (slice_index_or checkpoints' q zeros) (take r (drop (q * step) messages'))) on
+      ∙ ap (λ xs. get_or xs q zeros) more'
+      ∙ get_or-append_right checkpoints (w ∷ []) (length checkpoints) q zeros refl (omega arith)
+      ∙ ap (λ k. get_or (w ∷ []) k zeros) none
       ∙ e)
 
+  pub replayed_back : (n : ℕ) (checkpoints' : List Words) (messages' : List Message) → first ≤ length messages → n ≤ follow row
+      → checkpoints' ≡ take ((first + n) / step + 1) checkpoints → messages' ≡ take (first + n) messages
+      → replayed rule checkpoints' messages' first ≡ row_back row n
+  replayed_back n checkpoints' messages' le lt cut cut' =
+      let p : ℕ = first + n in
+      let fewer : length messages' - first + 1 ≡ length (take (n + 1) row) =
+      omega (arith, ap length cut', length-take p messages, length-take (n + 1) row, replayed_long) in
+      table (reached rule checkpoints' messages') first (length messages' - first + 1) (take (n + 1) row) fewer (λ k below.
+      let i : ℕ = first + k in
+      let early : k < n + 1 = omega (arith, ap length cut', length-take p messages, replayed_long) in
+      same_place rule checkpoints' checkpoints messages' messages i i
+      (ap (λ xs. get_or xs (i / step) zeros) cut ∙ get_or-take (p / step + 1) checkpoints (i / step) zeros (omega arith))
+      (since_same messages' messages i (ap (take i) cut' ∙ take-take i p messages (omega arith)))
+      ∙ sym (get_or-take (n + 1) row k zeros early ∙ replayed_at k (omega (arith, replayed_long))))
+      ∙ sym (cond-true (has row n) _ row (le-leb n (follow row) lt))
+
   -- what was before the last checkpoint at or before the new start is gone
-  pub replayed_forgot : (n : ℕ) (checkpoints' : List Words) (messages' : List Message) → first < step → held ≤ capacity → length checkpoints ≡ capacity / step + 1 → length messages ≡ capacity + step - 1 → n ≤ held
-      → checkpoints' ≡ paste checkpoints 0 (drop ((first + n) / step) checkpoints) ((first + held) / step + 1 - (first + n) / step)
-      → messages' ≡ paste messages 0 (drop ((first + n) / step * step) messages) (first + held - (first + n) / step * step)
-      → replayed rule checkpoints' messages' ((first + n) % step) (held - n) ≡ row_forgot (replayed rule checkpoints messages first held) n
-  replayed_forgot n checkpoints' messages' low within marked noted le moved carried =
-      let q : ℕ = (first + n) / step in
-      let c : ℕ = (first + held) / step + 1 - q in
-      let d : ℕ = first + held - q * step in
-      let long : held - n + 1 ≡ held + 1 - n = omega arith in
-      let fewer : take c checkpoints' ≡ take c (drop q checkpoints) =
-      ap (take c) moved ∙ take_pasted checkpoints (drop q checkpoints) c (omega (arith, length-drop q checkpoints)) in
-      let later : take d messages' ≡ take d (drop (q * step) messages) =
-      ap (take d) carried ∙ take_pasted messages (drop (q * step) messages) d (omega (arith, length-drop (q * step) messages)) in
-      map_same (reached rule checkpoints messages) (reached rule checkpoints' messages') (first + n) ((first + n) % step) (held - n + 1)
-      (λ k lt.
-      let i : ℕ = (first + n) % step + k in
-      let place : q * step + i ≡ first + n + k = omega arith in
-      ap (λ w. after rule w (since messages' i)) (checkpoint_moved checkpoints checkpoints' q c i (omega arith) fewer)
-      ∙ ap (after rule (slice_index_or checkpoints ((q * step + i) / step) zeros)) (since_moved messages messages' q d i (omega arith) later)
-      ∙ ap (reached rule checkpoints messages) place)
-      ∙ ap (λ k. map (reached rule checkpoints messages) (range_with_len (first + n) k)) long
-      ∙ sym (drop_map_counting (reached rule checkpoints messages) first (held + 1) n (omega arith))
-      ∙ sym (forgets (replayed rule checkpoints messages first held) held replayed_long n le)
+  pub replayed_forgot : (n : ℕ) (checkpoints' : List Words) (messages' : List Message) → first ≤ length messages → n ≤ follow row
+      → checkpoints' ≡ drop ((first + n) / step) checkpoints → messages' ≡ drop ((first + n) / step * step) messages
+      → replayed rule checkpoints' messages' ((first + n) % step) ≡ row_forgot row n
+  replayed_forgot n checkpoints' messages' le lt shed shed' =
+      let p : ℕ = first + n in
+      let q : ℕ = p / step in
+      let left : length messages' ≡ length messages - q * step = ap length shed' ∙ length-drop (q * step) messages in
+      let fewer : length messages' - p % step + 1 ≡ length (drop n row) = omega (arith, left, length-drop n row, replayed_long) in
+      table (reached rule checkpoints' messages') (p % step) (length messages' - p % step + 1) (drop n row) fewer (λ k below.
+      let i : ℕ = p % step + k in
+      let there : q + i / step ≡ (first + (n + k)) / step = omega arith in
+      let place : q * step + i ≡ first + (n + k) = omega arith in
+      same_place rule checkpoints' checkpoints messages' messages i (first + (n + k))
+      (ap (λ xs. get_or xs (i / step) zeros) shed ∙ get_or-drop q checkpoints (i / step) zeros ∙ ap (λ j. get_or checkpoints j zeros) there)
+      (ap (λ ms. since ms i) shed' ∙ since_drop messages q i ∙ ap (since messages) place)
+      ∙ sym (get_or-drop n row k zeros ∙ replayed_at (n + k) (omega (arith, left, replayed_long))))
+      ∙ sym (cond-true (has row n) _ row (le-leb n (follow row) lt))
+
+-- how long the row is, and a list whose front is gone
+pub ruleset lengths = (replayed_long, length-drop)

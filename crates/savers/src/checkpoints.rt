@@ -1,7 +1,8 @@
 // A saver that keeps a checkpoint at every fourth quadruple of words, and reaches the others by reacting again.
-ghost use Rattle.std.specs.Prelude.{◌≡◌, ℕ, ◌+◌, ◌-◌, ◌/◌, ◌<◌, ◌≤◌, [], ◌∷◌, length};
-ghost use Rattle.savers.specs.Rows.{capacity};
-ghost use Rattle.savers.specs.Replays.{step, reached, replayed};
+ghost use Rattle.std.specs.Prelude.{◌≡◌, ◌+◌, ◌/◌, ◌<◌, ◌≤◌, [], ◌∷◌, length};
+ghost use Rattle.rows.specs.Held.{held};
+ghost use Rattle.savers.specs.Rows.{capacity, newest};
+ghost use Rattle.savers.specs.Replays.{step, replayed};
 ghost use Rattle.std.proofs.Common.{arith};
 ghost use Rattle.savers.specs.ReplaysLemmas.{replayed_long};
 
@@ -9,6 +10,7 @@ use super::refusal::Refusal;
 use super::saver::{CAPACITY, Saver};
 use boards::Board;
 use bus::{BLANK, Message, Sends, Words};
+use rows::Row;
 
 // A checkpoint stands at every fourth place.
 const STEP: usize = 4;
@@ -22,39 +24,38 @@ const MESSAGES: usize = CAPACITY + STEP - 1;
 #[derive(Drop)]
 pub struct Checkpoints<B: Board> {
     board: B,
-    checkpoints: [Words; CHECKPOINTS],
-    messages: [Message; MESSAGES],
+    checkpoints: Row<Words, CHECKPOINTS>,
+    messages: Row<Message, MESSAGES>,
     first: usize,
-    held: usize,
     ghost low: { first < step },
-    ghost within: { held ≤ capacity },
-    ghost marked: { length checkpoints ≡ capacity / step + 1 },
-    ghost noted: { length messages ≡ capacity + step - 1 },
+    ghost started: { first ≤ length (held messages) },
+    ghost within: { length (held messages) ≤ first + capacity },
+    ghost marked: { length (held checkpoints) ≡ length (held messages) / step + 1 },
 }
 
 impl<B: Board> Checkpoints<B> {
     // A saver whose start is the board's words.
     pub fn new(board: B) -> Self
-        ensures { replayed B.Board.rule result.checkpoints result.messages result.first result.held ≡ B.Board.state board ∷ [] }
+        ensures { replayed B.Board.rule (held result.checkpoints) (held result.messages) result.first ≡ B.Board.state board ∷ [] }
     {
+        let mut checkpoints = Row::empty(board.words());
+        checkpoints.push(board.words());
         Checkpoints {
             board,
-            checkpoints: [board.words(); CHECKPOINTS],
-            messages: [BLANK; MESSAGES],
+            checkpoints,
+            messages: Row::empty(BLANK),
             first: 0,
-            held: 0,
         }
     }
 
-    // A board with the words at a place. What it sends on the way goes nowhere.
-    fn reach(&self, place: usize) -> B
-        requires { place < capacity + step }
-        ensures { B.Board.state result ≡ reached B.Board.rule self.now.checkpoints self.now.messages place }
+    // A board with the last words. What it sends on the way goes nowhere.
+    fn reach(&self) -> B
+        ensures { B.Board.state result ≡ newest (replayed B.Board.rule (held self.now.checkpoints) (held self.now.messages) self.now.first) }
     {
         let mut board = self.board;
-        let checkpoint = place / STEP;
-        board.load(self.checkpoints[checkpoint]);
-        for message in &self.messages[checkpoint * STEP..place] {
+        let checkpoint = self.checkpoints.len() - 1;
+        board.load(self.checkpoints.as_slice()[checkpoint]);
+        for message in &self.messages.as_slice()[checkpoint * STEP..] {
             let _ = board.react(message);
         }
         board
@@ -64,60 +65,59 @@ impl<B: Board> Checkpoints<B> {
 impl<B: Board> Saver for Checkpoints<B> {
     ghost rule = { B.Board.rule };
 
-    ghost row = { λ s. replayed B.Board.rule s.checkpoints s.messages s.first s.held };
+    ghost row = { λ s. replayed B.Board.rule (held s.checkpoints) (held s.messages) s.first };
 
-    ghost begun = { λ s. omega (arith, replayed_long B.Board.rule s.checkpoints s.messages s.first s.held) };
+    ghost begun = { λ s. omega (arith, replayed_long B.Board.rule (held s.checkpoints) (held s.messages) s.first) };
 
-    ghost bounded = { λ s. omega (arith, replayed_long B.Board.rule s.checkpoints s.messages s.first s.held) };
+    ghost bounded = { λ s. omega (arith, replayed_long B.Board.rule (held s.checkpoints) (held s.messages) s.first, s.within) };
 
     fn begin(&mut self, start: Words) {
-        self.checkpoints[0] = start;
+        self.checkpoints.cut(0);
+        self.checkpoints.push(start);
+        self.messages.cut(0);
         self.first = 0;
-        self.held = 0;
     }
 
     fn take(&mut self, message: &Message) -> Result<Sends, Refusal> {
-        if self.held >= CAPACITY {
+        if self.held() >= CAPACITY {
             return Err(Refusal::Full);
         }
-        let place = self.first + self.held;
-        let mut board = self.reach(place);
+        let mut board = self.reach();
         let sends = board.react(message);
-        self.messages[place] = *message;
-        self.held += 1;
-        if (place + 1) % STEP == 0 {
-            self.checkpoints[(place + 1) / STEP] = board.words();
+        self.messages.push(*message);
+        if self.messages.len() % STEP == 0 {
+            self.checkpoints.push(board.words());
         }
         Ok(sends)
     }
 
     fn back(&mut self, n: usize) -> Result<(), Refusal> {
-        if n > self.held {
+        if n > self.held() {
             return Err(Refusal::TooFew);
         }
-        self.held = n;
+        let place = self.first + n;
+        self.messages.cut(place);
+        self.checkpoints.cut(place / STEP + 1);
         Ok(())
     }
 
     fn forget(&mut self, n: usize) -> Result<(), Refusal> {
-        if n > self.held {
+        if n > self.held() {
             return Err(Refusal::TooFew);
         }
         let place = self.first + n;
-        let end = self.first + self.held;
         let gone = place / STEP;
-        self.checkpoints.copy_within(gone..end / STEP + 1, 0);
-        self.messages.copy_within(gone * STEP..end, 0);
+        self.messages.shed(gone * STEP);
+        self.checkpoints.shed(gone);
         self.first = place % STEP;
-        self.held -= n;
         Ok(())
     }
 
     fn words(&self) -> Words {
-        self.reach(self.first + self.held).words()
+        self.reach().words()
     }
 
     fn held(&self) -> usize {
-        self.held
+        self.messages.len() - self.first
     }
 }

@@ -1,6 +1,7 @@
 // Savers keep a board's words, so that messages that it took can be taken back.
 #![tactic(auto)]
 
+#[tactic(auto, using(crate::specs::ReplaysLemmas::lengths))]
 mod checkpoints;
 mod full_copies;
 mod refusal;

@@ -1,23 +1,10 @@
--- `back` of the checkpoints does what its contract says.
-use Rattle.std.proofs.Common.{sym}
-use Rattle.savers.specs.Known.{goes_not, answers_few, answers_done}
-use Rattle.savers.specs.ReplaysLemmas.{replayed_long, replayed_back}
+-- The front of the messages, and the checkpoints among them.
+use Rattle.std.proofs.Common.{arith}
+use Rattle.rows.specs.Held.{held}
+use Rattle.savers.specs.ReplaysLemmas.{replayed_back}
 use Rattle.savers.proofs.checkpoints.CheckpointsSaver.back.Goals as goal
 
-pub returns-then-n-self : goal.returns-then-n-self
-returns-then-n-self g c =
+pub returns-clause-left : goal.returns-clause-left
+returns-clause-left g c =
     let s = c.args.self.now in
-    let long = replayed_long g.B.Board.rule s.checkpoints s.messages s.first s.held in
-    record {
-      left = sym (goes_not _ s.held long c.args.n c.if-n-self.true);
-      answer = sym (answers_few _ s.held long c.args.n c.if-n-self.true);
-    }
-
-pub returns : goal.returns
-returns g c =
-    let s = c.args.self.now in
-    let rule = g.B.Board.rule in
-    record {
-      left = replayed_back rule s.checkpoints s.messages s.first s.held c.args.n c.if-n-self.false;
-      answer = sym (answers_done _ s.held (replayed_long rule s.checkpoints s.messages s.first s.held) c.args.n c.if-n-self.false);
-    }
+    replayed_back g.B.Board.rule (held s.checkpoints) (held s.messages) s.first c.args.n _ _ s.started (omega (arith, c.held.ensures, c.if-n-held.false)) c.cut-2.ensures c.cut.ensures

@@ -1,38 +1,44 @@
--- `take` of the checkpoints does what its contract says.
-use Rattle.std.proofs.Common.{sym, ap, ◌∙◌}
-use Rattle.savers.specs.Known.{takes_not, answers_full}
-use Rattle.savers.specs.ReplaysLemmas.{replayed_long, replayed_answers, taken_at_checkpoint, taken_between}
+-- One more message, and at every fourth place a checkpoint.
+use Rattle.std.proofs.Common.{ap, ◌∙◌, arith}
+use Rattle.rows.specs.Held.{held}
+use Rattle.savers.specs.ReplaysLemmas.{replayed_long, one_more, taken_between, taken_at_checkpoint}
 use Rattle.savers.proofs.checkpoints.CheckpointsSaver.take.Goals as goal
 
-pub returns-then-self-ge-CAPACITY : goal.returns-then-self-ge-CAPACITY
-returns-then-self-ge-CAPACITY g c =
+pub invariant_of-self : goal.invariant_of-self
+invariant_of-self g c =
     let s = c.args.self.now in
-    let rule = g.B.Board.rule in
-    let long = replayed_long rule s.checkpoints s.messages s.first s.held in
+    let long = replayed_long g.B.Board.rule (held s.checkpoints) (held s.messages) s.first in
+    let more = one_more 35 (held s.messages) _ c.args.message.now (omega (arith, long, s.low, s.started, c.held.ensures, c.if-held-ge-CAPACITY.false)) c.push.ensures in
+    let marked = one_more 9 (held s.checkpoints) _ c.words.result (omega (arith, long, s.low, s.started, s.marked, c.held.ensures, c.if-held-ge-CAPACITY.false)) c.push-then-len-eq0.ensures in
     record {
-      left = sym (takes_not _ s.held long rule c.args.message.now c.if-self-ge-CAPACITY.true);
-      answer = sym (answers_full _ s.held long rule c.args.message.now c.if-self-ge-CAPACITY.true);
+      low = s.low;
+      started = omega (arith, more, s.started);
+      within = omega (arith, more, long, c.held.ensures, c.if-held-ge-CAPACITY.false);
+      marked = omega (arith, more, marked, s.marked, c.len.ensures, c.if-len-eq0.true);
     }
 
-pub returns-then-place-eq0 : goal.returns-then-place-eq0
-returns-then-place-eq0 g c =
+pub invariant_of-self-else-len-eq0 : goal.invariant_of-self-else-len-eq0
+invariant_of-self-else-len-eq0 g c =
     let s = c.args.self.now in
-    let rule = g.B.Board.rule in
-    let m = c.args.message.now in
+    let long = replayed_long g.B.Board.rule (held s.checkpoints) (held s.messages) s.first in
+    let more = one_more 35 (held s.messages) _ c.args.message.now (omega (arith, long, s.low, s.started, c.held.ensures, c.if-held-ge-CAPACITY.false)) c.push.ensures in
     record {
-      left = taken_at_checkpoint rule s.checkpoints s.messages s.first s.held m c.words.result s.low s.marked c.if-self-ge-CAPACITY.false c.if-place-eq0.true
-          (c.words.ensures ∙ c.react-sends.ensures.leaves_the_rules_words ∙ ap (λ w. (rule w m).words) c.reach-board.ensures);
-      answer = replayed_answers rule s.checkpoints s.messages s.first s.held m _ c.if-self-ge-CAPACITY.false
-          (c.react-sends.ensures.answers_the_rules_sends ∙ ap (λ w. (rule w m).sends) c.reach-board.ensures);
+      low = s.low;
+      started = omega (arith, more, s.started);
+      within = omega (arith, more, long, c.held.ensures, c.if-held-ge-CAPACITY.false);
+      marked = omega (arith, more, s.marked, c.len.ensures, c.if-len-eq0.false);
     }
 
-pub returns-else-place-eq0 : goal.returns-else-place-eq0
-returns-else-place-eq0 g c =
+pub returns-then-len-eq0-clause-left : goal.returns-then-len-eq0-clause-left
+returns-then-len-eq0-clause-left g c =
     let s = c.args.self.now in
     let rule = g.B.Board.rule in
-    let m = c.args.message.now in
-    record {
-      left = taken_between rule s.checkpoints s.messages s.first s.held m s.low s.noted c.if-self-ge-CAPACITY.false c.if-place-eq0.false;
-      answer = replayed_answers rule s.checkpoints s.messages s.first s.held m _ c.if-self-ge-CAPACITY.false
-          (c.react-sends.ensures.answers_the_rules_sends ∙ ap (λ w. (rule w m).sends) c.reach-board.ensures);
-    }
+    taken_at_checkpoint rule (held s.checkpoints) (held s.messages) s.first c.args.message.now _ _ _ s.low s.started s.marked
+    (omega (arith, c.held.ensures, c.if-held-ge-CAPACITY.false)) (omega (arith, c.len.ensures, c.if-len-eq0.true)) c.push.ensures c.push-then-len-eq0.ensures
+    (c.words.ensures ∙ c.react-sends.ensures.leaves_the_rules_words ∙ ap (λ w. (rule w c.args.message.now).words) c.reach-board.ensures)
+
+pub returns-else-len-eq0-clause-left : goal.returns-else-len-eq0-clause-left
+returns-else-len-eq0-clause-left g c =
+    let s = c.args.self.now in
+    taken_between g.B.Board.rule (held s.checkpoints) (held s.messages) s.first c.args.message.now _ s.low s.started
+    (omega (arith, c.held.ensures, c.if-held-ge-CAPACITY.false)) (omega (arith, c.len.ensures, c.if-len-eq0.false)) c.push.ensures
