@@ -50,6 +50,7 @@ impl Board for Ticker {
         }
         self.count = self.count.wrapping_add(1);
         let beat = Send {
+            // casts behind a remainder, here and below: no `try_from`, which could give up
             address: (self.address % 256) as u8,
             lag: 0,
             kind: BEAT,

@@ -66,6 +66,7 @@ pub(crate) fn stimuli_of(heap: Global, end: u32, calls: &[Call]) -> Result<Vec<M
 {
     let mut stimuli = Vec::new(heap);
     for call in calls {
+        // no more than the bytes of a file: no `try_from`, which could give up
         if let Some(message) = stimulus_of(end, stimuli.len() as u32, call) {
             stimuli.push(message)?;
         }

@@ -27,6 +27,7 @@ fn side_of<L: Rack>(address: u8) -> Side
     if place < split {
         Side::Left(address)
     } else {
+        // no more than the address: no `try_from`, which could give up
         Side::Right((place - split) as u8)
     }
 }

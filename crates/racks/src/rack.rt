@@ -23,6 +23,7 @@ pub trait Rack {
     fn boards() -> u8
         ensures { result ≡ min (length rules) 8 }
     {
+        // at most eight: no `try_from`, which could give up
         Self::count().min(8) as u8
     }
 

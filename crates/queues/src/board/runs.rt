@@ -14,6 +14,7 @@ impl BoardQueues {
     {
         if let Some(cause) = self.next() {
             note_sent(&mut self.outputs, cause, out);
+            // at most two: no `try_from`, which could give up
             self.sends.push(out.len() as u8);
         }
     }
