@@ -1,13 +1,11 @@
 // Files with each fault, the shortest and the longest file, and calls cut short, by what is printed of them.
 use crate::list;
-use std::process::Abort;
 use std::test::Fail;
 
 // Each crate of texts has this helper: one for all would be a crate below them, for tests alone.
-fn expect(rt: &(impl Abort + AllocGlobal), bytes: &[u8], printed: &str) -> Result<(), Fail> {
+fn expect(rt: &impl AllocGlobal, bytes: &[u8], printed: &str) -> Result<(), Fail> {
     let text = list(rt.alloc(), bytes)?;
-    assert_eq!(rt; text.as_str(), printed);
-    Ok(())
+    if text.as_str() == printed { Ok(()) } else { Err(Fail::new("another text")) }
 }
 
 #[test]

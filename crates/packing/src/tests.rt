@@ -1,16 +1,14 @@
 // Texts that are packed and listed again, and texts that are refused, by the sentence that is printed.
 use crate::pack;
 use listing::list;
-use std::process::Abort;
 use std::test::Fail;
 
-fn expect_back(rt: &(impl Abort + AllocGlobal), text: &str) -> Result<(), Fail> {
+fn expect_back(rt: &impl AllocGlobal, text: &str) -> Result<(), Fail> {
     let Ok(bytes) = pack(rt.alloc(), text.as_bytes()) else {
         return Err(Fail::new("not packed"));
     };
     let listed = list(rt.alloc(), &bytes)?;
-    assert_eq!(rt; listed.as_str(), text);
-    Ok(())
+    if listed.as_str() == text { Ok(()) } else { Err(Fail::new("another text")) }
 }
 
 fn expect_refusal(rt: &impl AllocGlobal, text: &str, sentence: &str) -> Result<(), Fail> {

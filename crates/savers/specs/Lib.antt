@@ -3,3 +3,4 @@ pub mod Rows
 pub mod Replays
 pub mod Refusals
 pub mod ReplaysLemmas
+pub mod Cases

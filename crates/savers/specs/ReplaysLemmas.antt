@@ -1,5 +1,5 @@
 -- A row whose words are reached again from checkpoints.
-use Rattle.std.specs.Prelude.{◌≡◌, ℕ, ◌+◌, ◌-◌, ◌*◌, ◌/◌, ◌%◌, ◌<◌, ◌≤◌, List, [], ◌∷◌, ◌++◌, map, length, get_or, take, drop, ◌≢◌, slice_index_or, refl}
+use Rattle.std.specs.Prelude.{◌≡◌, ℕ, ◌+◌, ◌-◌, ◌*◌, ◌/◌, ◌%◌, ◌<◌, ◌≤◌, List, [], ◌∷◌, ◌++◌, map, length, get_or, take, drop, Ok, Err, ◌≢◌, slice_index_or, refl}
 use Rattle.std.proofs.Common.{sym, ap, ◌∙◌, arith, length-drop, length-append, length-take}
 use Rattle.std.proofs.Math.ListN.{get_or-append}
 use Rattle.std.proofs.lemmas.Bool.{cond-true, lt-ltb, le-leb}
@@ -8,8 +8,9 @@ use Rattle.std.proofs.lemmas.List.FromFn.{length-map-range_with_len, get_or-map-
 use Rattle.std.proofs.lemmas.List.{take_more, take_all, take-take, take-append-le, drop-append-le, drop-drop, drop-take, get_or-drop, get_or-take, get_or-append_right, ext_get_or}
 use Rattle.bus.specs.declared.Message.{Message}
 use Rattle.bus.specs.declared.Words.{Words}
-use Rattle.bus.specs.Reactions.{Rule, zeros}
-use Rattle.savers.specs.Rows.{Row, capacity, follow, newest, has_room, has, row_taken, row_back, row_forgot}
+use Rattle.bus.specs.Reactions.{Sends, Rule, zeros}
+use Rattle.savers.specs.declared.refusal.Refusal.TheVariants.{Full}
+use Rattle.savers.specs.Rows.{Row, capacity, follow, newest, has_room, has, row_taken, answer_taken, row_back, row_forgot}
 use Rattle.savers.specs.Replays.{step, after, since, reached, replayed}
 
 after_push : (rule : Rule) (w : Words) (ms : List Message) (m : Message) → after rule w (ms ++ m ∷ []) ≡ (rule (after rule w ms) m).words
@@ -88,24 +89,30 @@ module _ (rule : Rule) (checkpoints : List Words) (messages : List Message) (fir
   replayed_at k lt =
       get_or-map-range_with_len (reached rule checkpoints messages) first (length messages - first + 1) k (first + k) zeros (omega (arith, replayed_long)) refl
 
-  replayed_last : first ≤ length messages → newest row ≡ reached rule checkpoints messages (length messages)
-  replayed_last le =
-      get_or-map-range_with_len (reached rule checkpoints messages) first (length messages - first + 1) (follow row) (length messages) zeros
-      (omega (arith, replayed_long)) (omega (arith, replayed_long))
+  -- the last of them is what the words at the last place are
+  pub replayed_newest : first ≤ length messages → reached rule checkpoints messages (length messages) ≡ newest row
+  replayed_newest le =
+      sym (get_or-map-range_with_len (reached rule checkpoints messages) first (length messages - first + 1) (follow row) (length messages) zeros
+      (omega (arith, replayed_long)) (omega (arith, replayed_long)))
+
+  pub replayed_answers : (m : Message) (s : Sends) → first ≤ length messages → follow row < capacity
+      → s ≡ (rule (reached rule checkpoints messages (length messages)) m).sends → Ok s ≡ answer_taken rule row m
+  replayed_answers m s le few e =
+      ap Ok (e ∙ ap (λ u. (rule u m).sends) (replayed_newest le)) ∙ sym (cond-true (has_room row) _ (Err Full) (lt-ltb (follow row) capacity few))
 
   -- the last words, once all messages since the last checkpoint were taken again
-  pub replayed_newest : (count i : ℕ) (ms : List Message) → first ≤ length messages → length checkpoints ≡ length messages / step + 1
+  pub newest_reached : (count i : ℕ) (ms : List Message) → first ≤ length messages → length checkpoints ≡ length messages / step + 1
       → count ≡ length checkpoints → ms ≡ messages
       → length (take (length ms - (count - 1) * step) (drop ((count - 1) * step) ms)) ≤ i
       → after rule (slice_index_or checkpoints (count - 1) zeros) (take i (take (length ms - (count - 1) * step) (drop ((count - 1) * step) ms))) ≡ newest row
-  replayed_newest count i ms le marked counted e all =
+  newest_reached count i ms le marked counted e all =
       let d : ℕ = (count - 1) * step in
       let last : count - 1 ≡ length messages / step = omega arith in
       ap (after rule (slice_index_or checkpoints (count - 1) zeros))
       (take_all i _ all ∙ take_all (length ms - d) (drop d ms) (omega (arith, length-drop d ms)) ∙ ap (drop d) e)
       ∙ ap (λ q. after rule (slice_index_or checkpoints q zeros) (drop (q * step) messages)) last
       ∙ ap (after rule (slice_index_or checkpoints (length messages / step) zeros)) (sym (since_end messages))
-      ∙ sym (replayed_last le)
+      ∙ replayed_newest le
 
   -- one place more, where the checkpoints of the places before it are as they were
   grown : (checkpoints' : List Words) (messages' : List Message) (m : Message) → first ≤ length messages → follow row < capacity
@@ -139,7 +146,7 @@ module _ (rule : Rule) (checkpoints : List Words) (messages : List Message) (fir
       (ap (after rule (slice_index_or checkpoints ((n + 1) / step) zeros)) (ap (λ ms. since ms (n + 1)) more ∙ since_push messages m un)
       ∙ after_push rule (slice_index_or checkpoints ((n + 1) / step) zeros) (since messages n) m
       ∙ ap (λ q. (rule (after rule (slice_index_or checkpoints q zeros) (since messages n)) m).words) same
-      ∙ ap (λ w. (rule w m).words) (sym (replayed_last le)))
+      ∙ ap (λ w. (rule w m).words) (replayed_newest le))
 
   pub taken_at_checkpoint : (m : Message) (w : Words) (checkpoints' : List Words) (messages' : List Message) → first < step → first ≤ length messages
       → length checkpoints ≡ length messages / step + 1 → follow row < capacity → length messages' % step ≡ 0

@@ -30,7 +30,7 @@ pub struct Checkpoints<B: Board> {
     ghost low: { first < step },
     ghost started: { first ≤ length (held messages) },
     ghost within: { length (held messages) ≤ first + capacity },
-    ghost marked: { length (held checkpoints) ≡ length (held messages) / step + 1 },
+    ghost counted: { length (held checkpoints) ≡ length (held messages) / step + 1 },
 }
 
 impl<B: Board> Checkpoints<B> {
