@@ -45,10 +45,9 @@ impl Origin {
                 .message(number, send)
                 .map_or(Batch::Nothing, Batch::One),
             Sends::Two(first, second) => match self.message(number, first) {
-                Some(message) => match self.message(number.wrapping_add(1), second) {
-                    Some(other) => Batch::Two(message, other),
-                    None => Batch::One(message),
-                },
+                Some(message) => self
+                    .message(number.wrapping_add(1), second)
+                    .map_or(Batch::One(message), |other| Batch::Two(message, other)),
                 None => self
                     .message(number, second)
                     .map_or(Batch::Nothing, Batch::One),

@@ -9,7 +9,8 @@ use bus::Message;
 use model::{Call, Outcome};
 use racks::Rack;
 
-// The bench after the calls, how many were played, and how many lines they committed.
+// The bench after the calls, how many were played, and how many lines they committed: what was written of the caller's
+// memory, so that a run allocates nothing.
 pub struct Driven<R: Rack> {
     pub bench: Running<R>,
     pub played: usize,

@@ -27,6 +27,7 @@ const MOST_RUNS: u32 = 1_000_000_000;
 // How many boards a bus has at most.
 const MOST_BOARDS: usize = 8;
 
+// Each call tells for itself that it keeps the setting: three meet their rule under a premise, and keep the setting without it.
 pub struct Running<R: Rack> {
     rack: R,
     end: u32,

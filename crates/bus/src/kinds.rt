@@ -18,7 +18,8 @@ pub const VERDICT: u8 = 4;
 // A ticker has counted.
 pub const BEAT: u8 = 5;
 
-// The source of a message that comes from outside the bus.
+// The source of a message that comes from outside the bus. A number, and no `Option`: sources are compared as
+// numbers, and the outside is the last.
 pub const OUTSIDE: u8 = 255;
 
 // The constants have the numbers that the rules give them.

@@ -5,7 +5,11 @@ use std::test::Fail;
 // Each crate of texts has this helper: one for all would be a crate below them, for tests alone.
 fn expect(rt: &impl AllocGlobal, bytes: &[u8], printed: &str) -> Result<(), Fail> {
     let text = list(rt.alloc(), bytes)?;
-    if text.as_str() == printed { Ok(()) } else { Err(Fail::new("another text")) }
+    if text.as_str() == printed {
+        Ok(())
+    } else {
+        Err(Fail::new("another text"))
+    }
 }
 
 #[test]

@@ -5,23 +5,23 @@ ghost use Rattle.model.specs.Refusals.{refusal_number};
 #[derive(Clone, Copy)]
 pub enum Refusal {
     // no board has that address
-    NoBoard,
+    NoBoard = 1,
     // the offered time is above the end time
-    PastEnd,
+    PastEnd = 2,
     // the offered time is below the last committed line's
-    BeforeLastLine,
+    BeforeLastLine = 20,
     // too few places in transit
-    TransitFull,
+    TransitFull = 21,
     // the board's in-row and early anti-messages are full
-    BoardFull,
+    BoardFull = 22,
     // nothing is open on that board
-    NothingOpen,
+    NothingOpen = 23,
     // no item in transit has that index
-    NoItem,
+    NoItem = 24,
     // all offers are spent
-    OffersSpent,
+    OffersSpent = 25,
     // all runs are spent
-    RunsSpent,
+    RunsSpent = 26,
 }
 
 // The number by which the refusal is told.
@@ -29,16 +29,7 @@ impl From<Refusal> for u8 {
     ghost from_gives = { λ refusal number. number ≡ refusal_number refusal };
 
     fn from(refusal: Refusal) -> u8 {
-        match refusal {
-            Refusal::NoBoard => 1,
-            Refusal::PastEnd => 2,
-            Refusal::BeforeLastLine => 20,
-            Refusal::TransitFull => 21,
-            Refusal::BoardFull => 22,
-            Refusal::NothingOpen => 23,
-            Refusal::NoItem => 24,
-            Refusal::OffersSpent => 25,
-            Refusal::RunsSpent => 26,
-        }
+        // no derive makes a number of an enum
+        refusal as u8
     }
 }

@@ -25,7 +25,7 @@ pub fn reference_log(heap: Global, bytes: &[u8]) -> Result<String, AllocError>
     let mut text = String::new(heap);
     // the arms are those of `list` and `play`: one function for all would take the first arm as a closure over the text
     match read(heap, bytes) {
-        Ok(schedule) => add_run(heap, &mut text, schedule.end, &schedule.calls)?,
+        Ok(schedule) => add_run(heap, &mut text, &schedule)?,
         Err(ReadError::Faulty(fault)) => writeln!(text, "{fault}")?,
         Err(ReadError::NoMemory(error)) => return Err(error),
     }

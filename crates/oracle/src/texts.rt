@@ -6,7 +6,7 @@ ghost use Rattle.oracle.specs.Texts.{refusals_from, last_line, run_text};
 use crate::offers::{refusal_of, stimuli_of};
 use crate::runs::run_on;
 use report::add_lines;
-use schedule::Call;
+use schedule::{Call, Schedule};
 use std::alloc::{AllocError, Global};
 
 // A line for each refused offer: its place among the calls, and the refusal's number.
@@ -37,15 +37,14 @@ fn add_last_line(text: &mut String, lines: usize, pending: usize) -> Result<(), 
 pub(crate) fn add_run(
     heap: Global,
     text: &mut String,
-    end: u32,
-    calls: &[Call],
+    schedule: &Schedule,
 ) -> Result<(), AllocError>
-    requires { length calls.now ≤ most_bytes }
-    ensures { OnOk result (string_bytes text.new ≡ string_bytes text.old ++ run_text end calls.now) }
+    requires { length schedule.now.calls.items ≤ most_bytes }
+    ensures { OnOk result (string_bytes text.new ≡ string_bytes text.old ++ run_text schedule.now.end schedule.now.calls.items) }
 {
-    add_refusals(text, end, calls)?;
-    let stimuli = stimuli_of(heap, end, calls)?;
-    let ran = run_on(heap, end, stimuli)?;
+    add_refusals(text, schedule.end, &schedule.calls)?;
+    let stimuli = stimuli_of(heap, schedule.end, &schedule.calls)?;
+    let ran = run_on(heap, schedule.end, stimuli)?;
     add_lines(text, &ran.log)?;
     add_last_line(text, ran.log.len(), ran.pending)
 }

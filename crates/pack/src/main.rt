@@ -10,6 +10,7 @@ const MOST_TEXT: usize = 1_000_000;
 
 fn main(rt: HostRuntime) -> anyhow::Result<()> {
     let mut text = Vec::new(rt.alloc());
+    // `From` does not go from usize to u64
     rt.stdin()
         .take(MOST_TEXT as u64 + 1)
         .read_to_end(&mut text)?;

@@ -10,14 +10,10 @@ ghost use Rattle.packing.specs.Packing.{Packs, Refuses, LinesFit, WritesTheLines
 use crate::bytes::{call_size, push_call};
 use crate::error::{PackError, Why, at_line};
 use crate::line::{read_call_line, read_end_line};
-use schedule::Call;
+use schedule::{Call, EDITION, MOST_BYTES};
 use std::alloc::{AllocError, Global};
 
-const MOST_BYTES: usize = 60_000;
-
 const HEADER_SIZE: usize = 6;
-
-const EDITION: u16 = 1;
 
 // The call of the first of the lines, and the lines that follow it, if there is a line.
 fn next_call(lines: &[u8]) -> Result<Option<(Call, &[u8])>, Why>

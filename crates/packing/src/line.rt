@@ -47,7 +47,7 @@ pub(crate) fn read_end_line(text: &[u8]) -> Result<(u32, &[u8]), Why>
     last_field(time)
 }
 
-// The four numbers of an offer.
+// The four numbers of an offer. A file has the like: in bytes, and with faults of its own.
 fn read_offer(fields: &[u8]) -> Result<(Call, &[u8]), Why>
     ensures { MatchResult result (λ x. (offer_letter ∷ fields.now ≡ call_line x.0 ++ x.1.now) × Within x.0) (λ why. LineFault (offer_letter ∷ fields.now) why) }
 {

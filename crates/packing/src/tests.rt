@@ -8,7 +8,11 @@ fn expect_back(rt: &impl AllocGlobal, text: &str) -> Result<(), Fail> {
         return Err(Fail::new("not packed"));
     };
     let listed = list(rt.alloc(), &bytes)?;
-    if listed.as_str() == text { Ok(()) } else { Err(Fail::new("another text")) }
+    if listed.as_str() == text {
+        Ok(())
+    } else {
+        Err(Fail::new("another text"))
+    }
 }
 
 fn expect_refusal(rt: &impl AllocGlobal, text: &str, sentence: &str) -> Result<(), Fail> {

@@ -22,6 +22,7 @@ pub(crate) fn add_outcome(
     match *outcome {
         Outcome::Offered(_) | Outcome::Delivered(0) | Outcome::Ran(_) => Ok(()),
         Outcome::Delivered(undone) => {
+            // `From` does not go from usize to u64
             text.push_str("U ")?;
             end_with(text, &[undone as u64])
         }

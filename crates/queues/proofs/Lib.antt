@@ -4,7 +4,6 @@ pub mod Memories
 pub mod Searches
 pub mod Changes
 pub mod Sheds
-pub mod Boards
 pub mod Outlooks
 pub mod Joins
 pub mod Same

@@ -71,20 +71,18 @@ impl Table {
     pub fn plan(&self, k: usize, item: &Item) -> Plan
         ensures { result ≡ plan_of item.now (board_in self.now k) }
     {
-        match self.entries.get(k) {
-            Some(entry) => entry.plan(item),
-            None => Plan::nowhere(item),
-        }
+        self.entries
+            .get(k)
+            .map_or_else(|| Plan::nowhere(item), |entry| entry.plan(item))
     }
 
     // What the standing events of board k from a place on sent.
     pub fn sends_from(&self, k: usize, stay: usize) -> &[Sent]
         ensures { messages_of result.now ≡ sends_of (drop stay (board_in self.now k).standing) }
     {
-        match self.entries.get(k) {
-            Some(entry) => entry.sends_from(stay),
-            None => &[],
-        }
+        self.entries
+            .get(k)
+            .map_or(&[], |entry| entry.sends_from(stay))
     }
 
     // The least message that is outstanding at the boards, and of the rest.

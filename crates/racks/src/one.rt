@@ -13,7 +13,8 @@ pub struct One<S: Saver> {
     pub saver: S,
 }
 
-// Each call asks for the address: a method that lends the saver out would need a clause of its own on what is lent.
+// Each call asks for the address. A method that lends the saver out would need a clause of its own on what is lent,
+// and a check of the address in front would be as long. `Ok(..?)`: the saver's refusal becomes the rack's.
 impl<S: Saver> Rack for One<S> {
     ghost rules = { S.Saver.rule ∷ [] };
 

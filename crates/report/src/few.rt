@@ -18,6 +18,7 @@ pub(crate) fn add_few(text: &mut String, numbers: &[u64], behind: u8) -> Result<
     requires ascii { behind < 128 }
     ensures { OnOk result (string_bytes text.new ≡ string_bytes text.old ++ (spaced numbers.now ++ behind ∷ [])) }
 {
+    // Backwards in memory on the stack: adding each number by itself made a refused call take 1.3 times the twin's time.
     let mut line = [0; SIZE];
     let mut start = SIZE;
     let mut separator = behind;

@@ -13,6 +13,7 @@ impl From<Refusal> for u8 {
     ghost from_gives = { λ refusal number. number ≡ refusal_number refusal };
 
     fn from(refusal: Refusal) -> u8 {
+        // no derive makes a number of an enum
         refusal as u8
     }
 }

@@ -1,4 +1,5 @@
-// Searches in a row: places of records, and the least record.
+// Searches in a row: places of records, and the least record. `place`, `find` and `find_last` take memory and count as the
+// changes do, so that who lends both hands the same to all.
 ghost use Rattle.std.specs.Prelude.{◌≡◌, take};
 ghost use Rattle.rows.specs.Rows.{place_of, first_of, last_of, lesser, least};
 

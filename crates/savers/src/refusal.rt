@@ -5,9 +5,9 @@ ghost use Rattle.savers.specs.Refusals.{number_of, RefusedTakeLeavesTheRow, Refu
 #[derive(Clone, Copy)]
 pub enum Refusal {
     // It holds as many messages as it can.
-    Full,
+    Full = 27,
     // It holds fewer messages than were named.
-    TooFew,
+    TooFew = 28,
 }
 
 // The number by which the refusal is told.
@@ -15,10 +15,8 @@ impl From<Refusal> for u8 {
     ghost from_gives = { λ refusal number. number ≡ number_of refusal };
 
     fn from(refusal: Refusal) -> u8 {
-        match refusal {
-            Refusal::Full => 27,
-            Refusal::TooFew => 28,
-        }
+        // no derive makes a number of an enum
+        refusal as u8
     }
 }
 

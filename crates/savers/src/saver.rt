@@ -10,6 +10,7 @@ use bus::{Message, Sends, Words};
 // How many messages a saver holds at most.
 pub const CAPACITY: usize = 32;
 
+// Each saver asks in each call whether it has room, or so many: a method for that would be called by a line as long.
 pub trait Saver {
     // How the board inside reacts.
     ghost rule: { Rule };

@@ -47,7 +47,7 @@ impl From<CutShort> for CallFault {
     }
 }
 
-// The numbers of an offer.
+// The numbers of an offer. The text that is packed has the like: in decimal, and with faults of its own.
 fn read_offer(numbers: &[u8]) -> Result<(Call, &[u8]), CallFault>
     ensures { MatchResult result (λ x. (offer_letter ∷ numbers.now ≡ bytes_of x.0 ++ x.1.now) × Within x.0) (λ e. call_fault offer_letter numbers.now ≡ Some e) }
 {

@@ -9,5 +9,5 @@ mod show;
 
 pub use call::{Call, CallFault, read_call};
 pub use cases::{the_example_reads_as_its_calls, worked_files_have_their_faults};
-pub use file::{Fault, Layer, ReadError, Refusal, Schedule, placed_at, read};
+pub use file::{EDITION, Fault, Layer, MOST_BYTES, ReadError, Refusal, Schedule, placed_at, read};
 pub use number::{CutShort, LittleEndian, read_number};

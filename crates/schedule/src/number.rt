@@ -6,7 +6,8 @@ ghost use Rattle.schedule.specs.Layout.{two, four};
 #[derive(Clone, Copy)]
 pub struct CutShort;
 
-// A number of a fixed size, as the layout writes it: the lowest byte first.
+// A number of a fixed size, as the layout writes it: the lowest byte first. An impl for each width: a const parameter
+// cannot choose the type.
 pub trait LittleEndian {
     ghost layout: { Self → List ℕ };
 

@@ -10,6 +10,7 @@ impl From<Layer> for u8 {
     ghost from_gives = { λ layer n. n ≡ layer_number layer };
 
     fn from(layer: Layer) -> u8 {
+        // no derive makes a number of an enum
         layer as u8
     }
 }
@@ -18,6 +19,7 @@ impl From<Refusal> for u8 {
     ghost from_gives = { λ refusal n. n ≡ refusal_number refusal };
 
     fn from(refusal: Refusal) -> u8 {
+        // no derive makes a number of an enum
         refusal as u8
     }
 }

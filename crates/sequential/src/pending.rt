@@ -40,7 +40,8 @@ pub(crate) fn discard(pending: &mut [Message], held: usize, message: &Message) -
     }
 }
 
-// Puts messages behind the pending ones, and answers how many there are then.
+// Puts messages behind the pending ones, and answers how many there are then. Like `Transit::send` in `queues`, but in
+// memory that is lent.
 pub(crate) fn append(pending: &mut [Message], held: usize, batch: &Batch) -> usize
     requires { held + 2 ≤ length pending.old }
     ensures answer { result ≡ held + length (listed batch.now) }

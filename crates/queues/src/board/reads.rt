@@ -67,6 +67,7 @@ impl BoardQueues {
     pub(crate) fn issued(&self) -> u64
         ensures { result ≡ issued (queues_of self.now) }
     {
+        // `From` does not go from usize to u64
         u64::from(self.sent) + self.outputs.len() as u64
     }
 

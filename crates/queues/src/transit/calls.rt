@@ -36,7 +36,7 @@ impl Transit {
         self.items.as_slice().get(index).copied()
     }
 
-    // A batch of messages joins transit; what has no place is dropped.
+    // A batch of messages joins transit; what has no place is dropped. Like `note_sent`, which says why they are two.
     pub fn send(&mut self, out: &Batch)
         ensures { on_way self.new ≡ take 128 (on_way self.old ++ map Plus (listed out.now)) }
     {
