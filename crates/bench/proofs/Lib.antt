@@ -7,3 +7,4 @@ pub mod Deliveries
 pub mod Lines
 pub mod Logs
 pub mod Drives
+pub mod Boards

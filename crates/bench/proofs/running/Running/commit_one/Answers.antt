@@ -9,7 +9,7 @@ use Rattle.model.specs.declared.front.Front.{Front}
 use Rattle.model.specs.Commit.{is_final, shed}
 use Rattle.model.specs.Lines.{soonest, final_front, next_line, after_line}
 use Rattle.queues.specs.Entries.{queues_of, board_in}
-use Rattle.queues.proofs.Boards.{board_at}
+use Rattle.bench.proofs.Boards.{board_at}
 use Rattle.bench.specs.Benches.{state_of}
 use Rattle.bench.specs.Counts.{all_standing}
 use Rattle.bench.specs.Logs.{message_of}

@@ -9,7 +9,7 @@ use Rattle.queues.specs.Arrivals.{arrived, no_place}
 use Rattle.queues.specs.Entries.{queues_of, board_in, boards_in}
 use Rattle.queues.specs.Memory.{messages_of}
 use Rattle.queues.specs.Transits.{on_way}
-use Rattle.queues.proofs.Boards.{board_at}
+use Rattle.bench.proofs.Boards.{board_at}
 use Rattle.queues.proofs.Changes.{stay_within}
 use Rattle.bench.specs.Benches.{state_of}
 use Rattle.bench.specs.Counts.{all_standing}

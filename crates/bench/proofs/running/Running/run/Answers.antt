@@ -10,7 +10,7 @@ use Rattle.model.specs.declared.item.Item.TheVariants.{Plus}
 use Rattle.model.specs.State.{Queues, State, Answer, ran, issued}
 use Rattle.queues.specs.Entries.{queues_of, first_message, first_stands, board_in}
 use Rattle.queues.specs.Transits.{on_way}
-use Rattle.queues.proofs.Boards.{board_at}
+use Rattle.bench.proofs.Boards.{board_at}
 use Rattle.bench.specs.Benches.{setting_of, state_of}
 use Rattle.bench.proofs.Standing.{entry_standing, entry_issued, stood_one, issued_stood}
 use Rattle.bench.proofs.Reacts.{never_refused, rooms_within, run_is, rest_of, first_some}
