@@ -43,7 +43,7 @@ impl<B: Board> Checkpoints<B> {
         Checkpoints {
             board,
             checkpoints,
-            messages: Row::empty(BLANK),
+            messages: Row::over([BLANK; MESSAGES]),
             first: 0,
         }
     }

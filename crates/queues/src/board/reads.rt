@@ -17,13 +17,13 @@ impl BoardQueues {
         ensures { queues_of result ≡ no_queues }
     {
         BoardQueues {
-            messages: Row::empty(BLANK),
-            sends: Row::empty(0),
-            outputs: Row::empty(Sent {
+            messages: Row::over([BLANK; 32]),
+            sends: Row::over([0; 32]),
+            outputs: Row::over([Sent {
                 message: BLANK,
                 cause: BLANK,
-            }),
-            early: Row::empty(BLANK),
+            }; 64]),
+            early: Row::over([BLANK; 32]),
             sent: 0,
         }
     }
@@ -83,7 +83,12 @@ impl BoardQueues {
         ensures { result ≡ length (sends_of (take stay (queues_of self.now).standing)) }
     {
         let sends = self.sends.as_slice();
-        total(&sends[..stay.min(sends.len())])
+        // where all stay, nothing is summed
+        if stay < sends.len() {
+            total(&sends[..stay])
+        } else {
+            self.outputs.len()
+        }
     }
 
     // What the standing events from a place on sent.

@@ -20,7 +20,7 @@ impl Transit {
         ensures { on_way result ≡ [] }
     {
         Transit {
-            items: Row::empty(Item::Plus(BLANK)),
+            items: Row::over([Item::Plus(BLANK); 128]),
         }
     }
 

@@ -14,10 +14,14 @@ impl<T: Copy, const N: usize> Row<T, N> {
     pub fn empty(unused: T) -> Self
         ensures { held result ≡ [] }
     {
-        Row {
-            memory: [unused; N],
-            count: 0,
-        }
+        Row::over([unused; N])
+    }
+
+    // A row of no records over a memory: a constant one costs nothing to make, where `empty` writes every place.
+    pub fn over(memory: [T; N]) -> Self
+        ensures { held result ≡ [] }
+    {
+        Row { memory, count: 0 }
     }
 
     // The records.
