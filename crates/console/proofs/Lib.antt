@@ -1,3 +1,2 @@
--- What was read from the front of a reader, and a call that went well.
+-- What was read from the front of a reader.
 mod Fronts
-mod Calls
